@@ -1,0 +1,4 @@
+pub mod FaultCounts
+pub mod FileSearch
+pub mod ReadLoop
+pub mod WriteLoop

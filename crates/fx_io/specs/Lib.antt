@@ -1,0 +1,11 @@
+pub mod Ends
+pub mod Faults
+pub mod Held
+pub mod Host
+pub mod MemoryFiles
+pub mod MemorySink
+pub mod Named
+pub mod Plan
+pub mod Room
+pub mod Shelf
+pub mod Written
