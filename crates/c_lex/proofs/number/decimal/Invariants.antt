@@ -1,0 +1,10 @@
+-- The digits so far, and their value.
+use Rattle.std.proofs.Common.{◌≡◌, take}
+use Rattle.std.specs.Str.Parse.{AllDigits, digits_value}
+use Rattle.c_lex.proofs.number.decimal.Given as goal
+
+abbrev pub invariant-loop-byte : goal.invariant-loop-byte
+invariant-loop-byte l = record {
+  digits : AllDigits 10 (take l.byte-index l.word);
+  is_value : l.value ≡ digits_value 10 (take l.byte-index l.word);
+}
