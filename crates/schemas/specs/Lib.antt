@@ -1,0 +1,4 @@
+pub mod Conditions
+pub mod Edits
+pub mod Faults
+pub mod Tally

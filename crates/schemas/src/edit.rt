@@ -1,0 +1,85 @@
+//! The edits that a patch can make at one place.
+
+ghost use Rattle.std.specs.Prelude.{◌≡◌, map, IfOk};
+ghost use Rattle.c_tree.specs.Views.{tree};
+ghost use Rattle.schemas.specs.declared.edit.Edit.TheVariants.{Op};
+ghost use Rattle.schemas.specs.Edits.{other_comparisons as others, edits_of, with_operator as under, edited as after};
+
+use c_tree::{BinOp, Expr, ExprNode, NoMemory, copy_expr, is_pure};
+use std::alloc::Global;
+
+/// A change of one expression.
+#[derive(Clone, Copy, Debug, PartialEq, Eq)]
+pub enum Edit {
+    /// The operator at the top becomes this one.
+    Op(BinOp),
+}
+
+/// The other comparison operators (C11 6.5.8, 6.5.9), if this is one.
+fn other_comparisons(op: BinOp) -> &'static [BinOp]
+    ensures { result.now ≡ others op }
+{
+    use BinOp::{Eq, Ge, Gt, Le, Lt, Ne};
+    match op {
+        Eq => &[Ne, Lt, Le, Gt, Ge],
+        Ne => &[Eq, Lt, Le, Gt, Ge],
+        Lt => &[Eq, Ne, Le, Gt, Ge],
+        Le => &[Eq, Ne, Lt, Gt, Ge],
+        Gt => &[Eq, Ne, Lt, Le, Ge],
+        Ge => &[Eq, Ne, Lt, Le, Gt],
+        _ => &[],
+    }
+}
+
+/// The edits that replace this operator by another comparison, if it is one.
+fn comparison_edits(alloc: Global, op: BinOp) -> Result<Vec<Edit>, NoMemory>
+    ensures { IfOk result (λ edits. edits.items ≡ map (λ new. Op new) (others op)) }
+{
+    other_comparisons(op)
+        .iter()
+        .map(|new| Edit::Op(*new))
+        .collect(alloc)
+}
+
+/// The edits of cost 1 of a condition, in their order: of a comparison without a call, an assignment or a bump the
+/// five other comparisons, and else none.
+pub fn candidates(alloc: Global, e: &Expr) -> Result<Vec<Edit>, NoMemory>
+    ensures { IfOk result (λ edits. edits.items ≡ edits_of (tree e.now)) }
+{
+    if !is_pure(e) {
+        return Ok(Vec::new(alloc));
+    }
+    match &e.node {
+        ExprNode::Binary { op, .. } => comparison_edits(alloc, *op),
+        _ => Ok(Vec::new(alloc)),
+    }
+}
+
+/// A copy of the expression with the operator at its top replaced, if it has one.
+fn with_operator(alloc: Global, e: &Expr, op: BinOp) -> Result<Expr, NoMemory>
+    ensures { IfOk result (λ copy. tree copy ≡ under op (tree e.now)) }
+{
+    match &e.node {
+        ExprNode::Binary { left, right, .. } => Ok(Expr {
+            node: ExprNode::Binary {
+                op,
+                left: Box::new(alloc, copy_expr(alloc, left)?)?,
+                right: Box::new(alloc, copy_expr(alloc, right)?)?,
+            },
+            span: e.span,
+        }),
+        _ => Ok(copy_expr(alloc, e)?),
+    }
+}
+
+/// A copy of the expression with the edit made. It covers the same text.
+pub fn edited(alloc: Global, e: &Expr, edit: Edit) -> Result<Expr, NoMemory>
+    ensures { IfOk result (λ copy. tree copy ≡ after (tree e.now) edit) }
+{
+    match edit {
+        Edit::Op(op) => with_operator(alloc, e, op),
+    }
+}
+
+#[cfg(test)]
+mod tests;
