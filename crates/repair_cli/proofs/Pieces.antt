@@ -1,0 +1,40 @@
+-- A message that is written in three pieces, one behind another.
+use Rattle.std.proofs.Common.{◌≡◌, ℕ, ◌+◌, ◌≤◌, List, ◌++◌, length, take, refl, sym, ap, ◌∙◌, arith, append_assoc, length-append}
+use Rattle.std.specs.Prelude.{Option, Some, None}
+use Rattle.std.proofs.lemmas.List.{take-append-le}
+use Rattle.std.proofs.Math.Seq.{take-append-add}
+use Rattle.fx_io.specs.Faults.{Rose}
+use Rattle.fx_io.specs.Written.{appended}
+use Rattle.fx_io.proofs.FaultCounts.{Rose-later}
+use Rattle.repair_cli.specs.Sinks.{told, Breaks}
+
+-- a front of these bytes was appended
+abbrev AppendsSome : Option (List ℕ) → Option (List ℕ) → List ℕ → Type 0
+AppendsSome first last bytes = (n : ℕ) × (n ≤ length bytes) × (last ≡ appended first (take n bytes))
+
+-- what was appended to appended bytes is appended to the first
+appended-appended : (first : Option (List ℕ)) (a b : List ℕ) → appended (appended first a) b ≡ appended first (a ++ b)
+appended-appended None a b = refl
+appended-appended (Some w) a b = ap Some (append_assoc w a b)
+
+-- one piece was appended behind another
+pub appends_both : (first mid last : Option (List ℕ)) (a b : List ℕ) → mid ≡ appended first a → last ≡ appended mid b → last ≡ appended first (a ++ b)
+appends_both first mid last a b one two = two ∙ ap (λ m. appended m b) one ∙ appended-appended first a b
+
+-- a front of a piece is a front of that piece and another
+front_of_first : (first last : Option (List ℕ)) (a b : List ℕ) → AppendsSome first last a → AppendsSome first last (a ++ b)
+front_of_first first last a b (n, within, some) = (n, omega (arith, length-append a b, within), some ∙ ap (appended first) (sym (take-append-le n a b within)))
+
+-- one piece was appended, and a front of the next
+front_of_second : (first mid last : Option (List ℕ)) (a b : List ℕ) → mid ≡ appended first a → AppendsSome mid last b → AppendsSome first last (a ++ b)
+front_of_second first mid last a b one (n, within, some) =
+    (length a + n, omega (arith, length-append a b, within), appends_both first mid last a (take n b) one some ∙ ap (appended first) (sym (take-append-add a b n)))
+
+-- the write of the second piece failed
+pub second_breaks : (f0 f1 f2 : ℕ) (first mid last : Option (List ℕ)) (a b c : List ℕ) → f0 ≤ f1 → mid ≡ appended first a → Rose f1 f2 → AppendsSome mid last b → Breaks (told f0 f2 first last) (a ++ b ++ c)
+second_breaks f0 f1 f2 first mid last a b c later one rose front = record { rose = Rose-later f0 f1 f2 later rose; front = front_of_first first last (a ++ b) c (front_of_second first mid last a b one front) }
+
+-- the write of the third piece failed
+pub third_breaks : (f0 f1 f2 f3 : ℕ) (first mid next last : Option (List ℕ)) (a b c : List ℕ) → f0 ≤ f1 → f1 ≤ f2 → mid ≡ appended first a → next ≡ appended mid b → Rose f2 f3 → AppendsSome next last c → Breaks (told f0 f3 first last) (a ++ b ++ c)
+third_breaks f0 f1 f2 f3 first mid next last a b c later more one two rose front =
+    record { rose = Rose-later f0 f2 f3 (omega (arith, later, more)) rose; front = front_of_second first next last (a ++ b) c (appends_both first mid next a b one two) front }

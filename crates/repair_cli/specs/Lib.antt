@@ -1,0 +1,16 @@
+pub mod Accepted
+pub mod Answer
+pub mod Complete
+pub mod Ends
+pub mod Faults
+pub mod Laws
+pub mod Numbers
+pub mod Parts
+pub mod Patches
+pub mod Refusal
+pub mod Reply
+pub mod Sinks
+pub mod Source
+pub mod Texts
+pub mod Tried
+pub mod Words

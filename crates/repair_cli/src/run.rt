@@ -1,0 +1,69 @@
+//! The whole of a call.
+ghost use Rattle.std.specs.Prelude.{◌≤◌, IfErr, MatchResult};
+ghost use Rattle.repair_cli.specs.Complete.{HasFiles, HasRoom, OnRead, IsFaultless, longest};
+ghost use Rattle.repair_cli.specs.Ends.{Ends, IsAnswer};
+ghost use Rattle.repair_cli.specs.Refusal.{status_of, message_of};
+ghost use Rattle.repair_cli.specs.Sinks.{told};
+ghost use Rattle.repair_cli.specs.Source.{source, Cause};
+ghost use Rattle.repair_cli.specs.Words.{words_of, names_in};
+
+use crate::answer::{Reply, settled};
+use crate::gather::gathered;
+use crate::refusal::Refusal;
+use crate::report::{refuse, report};
+use crate::status::Status;
+use fx_io::{Files, Sink};
+use std::alloc::Global;
+
+/// Repairs the program that the words name, over the tests of the suite that they name. The words are those behind
+/// the program's own name: `repair`, then the name of a C source, then the name of a JSON suite.
+///
+/// The answer goes to `out`: the patched source, or a line that there is nothing to repair or that no patch repairs
+/// it. Where there is no answer a message goes to `err`. The status says which: its number is the
+/// exit status. After a failed write nothing more is written to that sink.
+pub fn run_alone<F: Files, O: Sink, E: Sink>(
+    alloc: Global,
+    words: &[String],
+    files: &mut F,
+    out: &mut O,
+    err: &mut E,
+) -> Status
+    ensures ends { Ends (source (words_of words.now) (F.held files.old) (F.faults files.old) (F.faults files.new))
+        (told (O.faults out.old) (O.faults out.new) (O.written out.old) (O.written out.new))
+        (told (E.faults err.old) (E.faults err.new) (E.written err.old) (E.written err.new)) result }
+    ensures complete { F.sure files.old → HasFiles (F.held files.old) (names_in (words_of words.now)) → HasRoom (source (words_of words.now) (F.held files.old) (F.faults files.old) (F.faults files.new)) (O.room out.old) → longest (names_in (words_of words.now)) ≤ E.room err.old → IsFaultless result }
+{
+    match answered(alloc, words, files) {
+        Ok(reply) => report(&reply, out, err),
+        Err(refusal) => refuse(refusal, err),
+    }
+}
+
+// The reply for the files that the words name, or why there is none.
+fn answered<'a, F: Files>(
+    alloc: Global,
+    words: &'a [String],
+    files: &mut F,
+) -> Result<Reply, Refusal<'a>>
+    ensures answered { MatchResult result
+        (λ reply. IsAnswer (source (words_of words.now) (F.held files.old) (F.faults files.old) (F.faults files.new)) reply.answer reply.text.items)
+        (λ refusal. Cause (source (words_of words.now) (F.held files.old) (F.faults files.old) (F.faults files.new)) (status_of refusal) (message_of refusal)) }
+    ensures sure { F.sure files.old → HasFiles (F.held files.old) (names_in (words_of words.now)) → IfErr result (λ refusal. OnRead refusal ⊥) }
+{
+    let job = match gathered(alloc, words, files) {
+        Ok(job) => job,
+        Err(refusal) => return Err(refusal),
+    };
+    let subject = &job.subject;
+    let suite = &job.suite;
+    match settled(
+        alloc,
+        &subject.source,
+        &subject.program,
+        &suite.tests,
+        suite.limit,
+    ) {
+        Ok(reply) => Ok(reply),
+        Err(_) => Err(Refusal::Memory),
+    }
+}
