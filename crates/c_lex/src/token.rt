@@ -146,10 +146,15 @@ pub enum Punct {
 /// The kinds of token. A constant has its value and its spelling.
 #[derive(Drop)]
 pub enum TokenKind {
+    /// An identifier that is no keyword (C11 6.4.2).
     Name(Text),
+    /// A number (C11 6.4.4).
     Const { value: i64, word: Text },
+    /// A string literal (C11 6.4.5).
     Str(Text),
+    /// A keyword.
     Word(Keyword),
+    /// A punctuator.
     Punct(Punct),
 }
 

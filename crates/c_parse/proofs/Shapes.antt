@@ -15,7 +15,8 @@ use Rattle.c_tree.specs.declared.stmt.Item.TheVariants.{Vars, Stmt'}
 use Rattle.c_tree.specs.declared.stmt.Item.TheBlock.{Row_of-Item, more_of-Item, end_of-Item, None', Some', items-the_row-Item, items_hidden-the_row-Item-0, hidden-the_row-Item-0}
 use Rattle.c_tree.specs.Tree.{call, block}
 use Rattle.c_tree.specs.Views.{tree, node_tree, args_tree, with_arg, args_of, code, node_code, items_code, with_item, body_of}
-use Rattle.c_parse.specs.Grammar.{span_of, code_span}
+use Rattle.c_tree.specs.Locations.{span_of}
+use Rattle.c_parse.specs.Grammar.{code_span}
 
 -- the span of a node is that of its tree
 pub span_of-node : (n : ExprNode) (s : Span) → span_of (node_tree n s) ≡ s

@@ -12,6 +12,7 @@ use Rattle.c_tree.specs.declared.place.Span.{Span}
 use Rattle.c_tree.specs.declared.stmt.Slot.TheVariants.{Unset}
 use Rattle.c_tree.specs.declared.stmt.Ty.TheVariants.{Int}
 use Rattle.c_tree.specs.declared.stmt.Shape.TheVariants.{Scalar}
+use Rattle.c_tree.specs.Locations.{span_of}
 use Rattle.c_tree.specs.Tree as tree
 use Rattle.c_tree.specs.Tree.{Tree, Code, Body, Variable, Outer}
 use Rattle.c_parse.specs.Words.{main_word, getchar_word, putchar_word, IsName, additive, comparison}
@@ -23,22 +24,6 @@ Tokens = List (TokenKind × Span)
 -- from the first byte of the one to the last of the other
 abbrev pub over : Span → Span → Span
 over s e = record { from = s.from; to = e.to }
-
--- the text of an expression
-abbrev pub span_of : Tree → Span
-span_of (tree.constant n word s) = s
-span_of (tree.name word slot s) = s
-span_of (tree.index word slot e s) = s
-span_of (tree.call word args s) = s
-span_of (tree.unary op e s) = s
-span_of (tree.cast ty e s) = s
-span_of (tree.binary op l r s) = s
-span_of (tree.choice t a b s) = s
-span_of (tree.assign op place e s) = s
-span_of (tree.bump before up place s) = s
-span_of (tree.comma l r s) = s
-span_of tree.hole = tree.no_span
-span_of (tree.hole_after e) = tree.no_span
 
 -- the text of a statement
 abbrev pub code_span : Code → Span

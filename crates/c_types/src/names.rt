@@ -5,8 +5,7 @@ ghost use Rattle.c_tree.specs.Tree.{Body};
 ghost use Rattle.c_tree.specs.Views.{body_of, with_item, variables};
 ghost use Rattle.c_types.specs.Names.{declared, place, slot_at};
 
-use crate::resolve::copy_word;
-use c_tree::{Declarator, Item, NoMemory, Slot, Text};
+use c_tree::{Declarator, Item, NoMemory, Slot, Text, copy_text};
 use std::alloc::Global;
 use std::marker::Model;
 
@@ -102,7 +101,7 @@ fn add_words(
     ensures { OnOk result (words.new.items ≡ words.old.items ++ map (λ v. v.word) (variables declarators.now)) }
 {
     for declarator in declarators {
-        words.push(copy_word(alloc, &declarator.word)?)?;
+        words.push(copy_text(alloc, &declarator.word)?)?;
     }
     Ok(())
 }

@@ -6,15 +6,10 @@ ghost use Rattle.c_tree.specs.Views.{tree, args_of, with_arg, trees, tree_option
 ghost use Rattle.c_types.specs.Names.{resolved_tree, resolved_args, resolved_option, resolved_initial, resolved_variable, resolved_first, resolved_code, resolved_body};
 
 use crate::names::Names;
-use c_tree::{Arg, Declarator, Expr, ExprNode, Init, Item, NoMemory, Start, Stmt, StmtNode, Text};
+use c_tree::{
+    Arg, Declarator, Expr, ExprNode, Init, Item, NoMemory, Start, Stmt, StmtNode, copy_text,
+};
 use std::alloc::Global;
-
-/// A copy of the word.
-pub fn copy_word(alloc: Global, word: &Text) -> Result<Text, NoMemory>
-    ensures { IfOk result (λ copy. copy ≡ word.now) }
-{
-    Ok(Text::new(Vec::from_slice(alloc, word.as_slice())?))
-}
 
 /// The expression in which each name has its variable.
 #[cycle(resolve_expr)]
@@ -25,20 +20,20 @@ fn resolve_expr(alloc: Global, names: &Names, e: &Expr) -> Result<Expr, NoMemory
         ExprNode::Const { value, word } => Ok(Expr {
             node: ExprNode::Const {
                 value: *value,
-                word: copy_word(alloc, word)?,
+                word: copy_text(alloc, word)?,
             },
             span: e.span,
         }),
         ExprNode::Name { word, .. } => Ok(Expr {
             node: ExprNode::Name {
-                word: copy_word(alloc, word)?,
+                word: copy_text(alloc, word)?,
                 slot: names.slot(word),
             },
             span: e.span,
         }),
         ExprNode::Index { word, index, .. } => Ok(Expr {
             node: ExprNode::Index {
-                word: copy_word(alloc, word)?,
+                word: copy_text(alloc, word)?,
                 slot: names.slot(word),
                 index: Box::new(alloc, resolve_expr(alloc, names, index)?)?,
             },
@@ -46,7 +41,7 @@ fn resolve_expr(alloc: Global, names: &Names, e: &Expr) -> Result<Expr, NoMemory
         }),
         ExprNode::Call { word, args } => Ok(Expr {
             node: ExprNode::Call {
-                word: copy_word(alloc, word)?,
+                word: copy_text(alloc, word)?,
                 args: resolve_args(alloc, names, args)?,
             },
             span: e.span,
@@ -124,7 +119,7 @@ fn resolve_arg(alloc: Global, names: &Names, arg: &Arg) -> Result<Arg, NoMemory>
 {
     match arg {
         Arg::Value(e) => Ok(Arg::Value(resolve_expr(alloc, names, e)?)),
-        Arg::Format(text, span) => Ok(Arg::Format(copy_word(alloc, text)?, *span)),
+        Arg::Format(text, span) => Ok(Arg::Format(copy_text(alloc, text)?, *span)),
         Arg::Address(e) => Ok(Arg::Address(resolve_expr(alloc, names, e)?)),
     }
 }
@@ -170,7 +165,7 @@ fn resolve_declarator(
     ensures { IfOk result (λ r. variable r ≡ resolved_variable names.now (variable declarator.now)) }
 {
     Ok(Declarator {
-        word: copy_word(alloc, &declarator.word)?,
+        word: copy_text(alloc, &declarator.word)?,
         slot: names.slot(&declarator.word),
         span: declarator.span,
         shape: declarator.shape,

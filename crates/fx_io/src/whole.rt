@@ -86,11 +86,11 @@ pub fn read_whole<F: Files>(
 /// Writes all of the bytes, and takes no memory.
 ///
 /// # Errors
-/// A write that failed, which the sink's `faults` counts. A front of the bytes was written then.
+/// A write that failed, which the sink's `faults` counts. A front of the bytes was written then, and not all.
 pub fn write_whole<S: Sink>(sink: &mut S, bytes: &[u8]) -> Result<(), Failed>
     ensures faults { S.faults sink.old ≤ S.faults sink.new }
     ensures ok { OnOk result (S.written sink.new ≡ appended (S.written sink.old) bytes.now) }
-    ensures failed { OnErr result ((n : ℕ) × (n ≤ length bytes.now)
+    ensures failed { OnErr result ((n : ℕ) × (n < length bytes.now)
         × (S.written sink.new ≡ appended (S.written sink.old) (take n bytes.now))) }
     ensures cause { OnErr result (Rose (S.faults sink.old) (S.faults sink.new)) }
     ensures room { length bytes.now ≤ S.room sink.old → IsOk result × (S.faults sink.new ≡ S.faults sink.old)

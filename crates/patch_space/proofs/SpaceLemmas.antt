@@ -1,5 +1,5 @@
 -- Patches that are listed location by location.
-use Rattle.std.proofs.Common.{◌≡◌, ℕ, suc, ◌+◌, ◌<◌, List, [], ◌∷◌, ◌++◌, map, length, drop, get_or, sym, ap, ◌∙◌, add-one, append_assoc, drop-cons}
+use Rattle.std.proofs.Common.{◌≡◌, ℕ, suc, ◌+◌, ◌<◌, List, ◌∷◌, ◌++◌, map, length, drop, get_or, sym, ap, ◌∙◌, add-one, append_assoc, drop-cons}
 use Rattle.c_tree.specs.declared.place.Loc.{Loc}
 use Rattle.c_tree.specs.Tree.{Outer}
 use Rattle.schemas.specs.declared.edit.Edit.{Edit}

@@ -1,6 +1,6 @@
 -- There is one right answer at most.
-use Rattle.std.proofs.Common.{◌≡◌, ℕ, ◌<◌, List, ◌⊎◌, inl, inr, take, length, get_or, ap, sym, subst, ◌∙◌, arith, refl}
-use Rattle.std.specs.Prelude.{Some, None, slice_get, option_map}
+use Rattle.std.proofs.Common.{◌≡◌, ℕ, ◌<◌, List, take, length, get_or, ap, sym, subst, ◌∙◌, arith, refl}
+use Rattle.std.specs.Prelude.{Some, slice_get}
 use Rattle.std.specs.List.{All}
 use Rattle.std.proofs.lemmas.List.{length-take, get_or-take}
 use Rattle.std.proofs.lemmas.List.Elements.{All-get_or}
@@ -10,7 +10,7 @@ use Rattle.c_stdio.specs.declared.test.Test.{Test}
 use Rattle.patch_space.specs.declared.patch.Patch.{Patch}
 use Rattle.repair_cli.specs.Accepted.{IsProgram}
 use Rattle.repair_cli.specs.Answer.{IsRight, IsFirstRepair, Repairs}
-use Rattle.repair_cli.specs.Patches.{patches, patched_text}
+use Rattle.repair_cli.specs.Patches.{patches}
 use Rattle.repair_cli.specs.Reply.{IsText}
 use Rattle.repair_cli.specs.Laws.{OneReply}
 use Rattle.fx_io.specs.Held.{file_named}

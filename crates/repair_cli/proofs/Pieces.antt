@@ -1,5 +1,5 @@
 -- A message that is written in three pieces, one behind another.
-use Rattle.std.proofs.Common.{◌≡◌, ℕ, ◌+◌, ◌≤◌, List, ◌++◌, length, take, refl, sym, ap, ◌∙◌, arith, append_assoc, length-append}
+use Rattle.std.proofs.Common.{◌≡◌, ℕ, ◌+◌, ◌<◌, ◌≤◌, List, ◌++◌, length, take, refl, sym, ap, ◌∙◌, arith, append_assoc, length-append}
 use Rattle.std.specs.Prelude.{Option, Some, None}
 use Rattle.std.proofs.lemmas.List.{take-append-le}
 use Rattle.std.proofs.Math.Seq.{take-append-add}
@@ -8,9 +8,9 @@ use Rattle.fx_io.specs.Written.{appended}
 use Rattle.fx_io.proofs.FaultCounts.{Rose-later}
 use Rattle.repair_cli.specs.Sinks.{told, Breaks}
 
--- a front of these bytes was appended
+-- a front of these bytes was appended, and not all
 abbrev AppendsSome : Option (List ℕ) → Option (List ℕ) → List ℕ → Type 0
-AppendsSome first last bytes = (n : ℕ) × (n ≤ length bytes) × (last ≡ appended first (take n bytes))
+AppendsSome first last bytes = (n : ℕ) × (n < length bytes) × (last ≡ appended first (take n bytes))
 
 -- what was appended to appended bytes is appended to the first
 appended-appended : (first : Option (List ℕ)) (a b : List ℕ) → appended (appended first a) b ≡ appended first (a ++ b)
@@ -23,7 +23,9 @@ appends_both first mid last a b one two = two ∙ ap (λ m. appended m b) one �
 
 -- a front of a piece is a front of that piece and another
 front_of_first : (first last : Option (List ℕ)) (a b : List ℕ) → AppendsSome first last a → AppendsSome first last (a ++ b)
-front_of_first first last a b (n, within, some) = (n, omega (arith, length-append a b, within), some ∙ ap (appended first) (sym (take-append-le n a b within)))
+front_of_first first last a b (n, within, some) =
+    let le : n ≤ length a = omega arith in
+    (n, omega (arith, length-append a b, within), some ∙ ap (appended first) (sym (take-append-le n a b le)))
 
 -- one piece was appended, and a front of the next
 front_of_second : (first mid last : Option (List ℕ)) (a b : List ℕ) → mid ≡ appended first a → AppendsSome mid last b → AppendsSome first last (a ++ b)

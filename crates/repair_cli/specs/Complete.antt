@@ -18,7 +18,7 @@ HasFiles held (Some names) = ¬ Lacks held names.0 × ¬ Lacks held names.1
 abbrev pub HasRoom : Source → ℕ → Type 0
 HasRoom source room = (answer : Answer) (text : List ℕ) → IsAnswer source answer text → length text ≤ room
 
--- no message of a call with these names is longer, but for that of a failed read
+-- no message of a call with these names is longer
 abbrev pub longest : Option (List ℕ × List ℕ) → ℕ
 longest None = 32
 longest (Some names) = 32 + length names.0 + length names.1

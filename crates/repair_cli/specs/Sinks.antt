@@ -1,5 +1,5 @@
 -- What a call leaves on a sink.
-use Rattle.std.specs.Prelude.{◌≡◌, ◌⊎◌, ℕ, ◌≤◌, List, length, take, Option}
+use Rattle.std.specs.Prelude.{◌≡◌, ◌⊎◌, ℕ, ◌<◌, List, length, take, Option}
 use Rattle.fx_io.specs.Faults.{Rose}
 use Rattle.fx_io.specs.Written.{appended}
 
@@ -18,11 +18,11 @@ told faults after bytes bytes_after = record { faults = faults; faults_after = a
 abbrev pub Appends : Told → List ℕ → Type 0
 Appends sink bytes = sink.bytes_after ≡ appended sink.bytes bytes
 
--- a front of these bytes was appended, where the sink's bytes are told
+-- a front of these bytes was appended, and not all, where the sink's bytes are told
 abbrev pub AppendsFront : Told → List ℕ → Type 0
-AppendsFront sink bytes = (n : ℕ) × (n ≤ length bytes) × Appends sink (take n bytes)
+AppendsFront sink bytes = (n : ℕ) × (n < length bytes) × Appends sink (take n bytes)
 
--- the write of these bytes failed: the count rose, and a front of them was appended
+-- the write of these bytes failed: the count rose, and a front of them was appended, and not all
 pub record Breaks (sink : Told) (bytes : List ℕ) : Type 0 where
   pub rose : Rose sink.faults sink.faults_after
   pub front : AppendsFront sink bytes

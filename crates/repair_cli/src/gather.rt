@@ -43,6 +43,8 @@ pub(crate) fn gathered<'a, F: Files>(
     words: &'a [String],
     files: &mut F,
 ) -> Result<Job, Refusal<'a>>
+    ensures held { F.held files.new ≡ F.held files.old }
+    ensures faults { F.faults files.old ≤ F.faults files.new }
     ensures gathered { MatchResult result
         (λ job. States (source (words_of words.now) (F.held files.old) (F.faults files.old) (F.faults files.new)) job.subject.source.items (tree_of job.subject.program) job.suite.tests.items × (job.suite.limit ≡ default_limit))
         (λ refusal. Cause (source (words_of words.now) (F.held files.old) (F.faults files.old) (F.faults files.new)) (status_of refusal) (message_of refusal)) }
@@ -92,6 +94,7 @@ fn suite_named<'a, F: Files>(
     files: &mut F,
     name: &'a str,
 ) -> Result<Suite, Refusal<'a>>
+    ensures held { F.held files.new ≡ F.held files.old }
     ensures faults { F.faults files.old ≤ F.faults files.new }
     ensures suite { IfOk result (λ suite. HoldsSuite (F.held files.old) name.now suite.tests.items × (suite.limit ≡ default_limit)) }
     ensures refusal { IfErr result (GivesNoSuite (F.held files.old) name.now (F.faults files.old) (F.faults files.new)) }

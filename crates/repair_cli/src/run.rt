@@ -1,5 +1,5 @@
 //! The whole of a call.
-ghost use Rattle.std.specs.Prelude.{◌≤◌, IfErr, MatchResult};
+ghost use Rattle.std.specs.Prelude.{◌≡◌, ◌≤◌, IfErr, MatchResult};
 ghost use Rattle.repair_cli.specs.Complete.{HasFiles, HasRoom, OnRead, IsFaultless, longest};
 ghost use Rattle.repair_cli.specs.Ends.{Ends, IsAnswer};
 ghost use Rattle.repair_cli.specs.Refusal.{status_of, message_of};
@@ -28,6 +28,10 @@ pub fn run_alone<F: Files, O: Sink, E: Sink>(
     out: &mut O,
     err: &mut E,
 ) -> Status
+    ensures held { F.held files.new ≡ F.held files.old }
+    ensures faults { F.faults files.old ≤ F.faults files.new }
+    ensures out_faults { O.faults out.old ≤ O.faults out.new }
+    ensures err_faults { E.faults err.old ≤ E.faults err.new }
     ensures ends { Ends (source (words_of words.now) (F.held files.old) (F.faults files.old) (F.faults files.new))
         (told (O.faults out.old) (O.faults out.new) (O.written out.old) (O.written out.new))
         (told (E.faults err.old) (E.faults err.new) (E.written err.old) (E.written err.new)) result }
@@ -45,6 +49,8 @@ fn answered<'a, F: Files>(
     words: &'a [String],
     files: &mut F,
 ) -> Result<Reply, Refusal<'a>>
+    ensures held { F.held files.new ≡ F.held files.old }
+    ensures faults { F.faults files.old ≤ F.faults files.new }
     ensures answered { MatchResult result
         (λ reply. IsAnswer (source (words_of words.now) (F.held files.old) (F.faults files.old) (F.faults files.new)) reply.answer reply.text.items)
         (λ refusal. Cause (source (words_of words.now) (F.held files.old) (F.faults files.old) (F.faults files.new)) (status_of refusal) (message_of refusal)) }

@@ -17,4 +17,4 @@ resolve_args-returns t c =
 
 pub resolve_expr-returns-in_ok-resolve_args-in-Call : goal.resolve_expr-returns-in_ok-resolve_args-in-Call
 resolve_expr-returns-in_ok-resolve_args-in-Call t c =
-    resolved-Call c.args.names.now c.args.e.now c.in-Call.word _ c.in-Call.args c.in_ok-resolve_args-in-Call.field-0 c.in-Call.is c.in_ok-copy_word-in-Call.ensures (c.in_ok-resolve_args-in-Call.ensures ∙ ap (λ (args : List Arg). resolved_args c.args.names.now (args_of args)) c.deref-in-Call.ensures.value)
+    resolved-Call c.args.names.now c.args.e.now c.in-Call.word _ c.in-Call.args c.in_ok-resolve_args-in-Call.field-0 c.in-Call.is c.in_ok-copy_text-in-Call.ensures (c.in_ok-resolve_args-in-Call.ensures ∙ ap (λ (args : List Arg). resolved_args c.args.names.now (args_of args)) c.deref-in-Call.ensures.value)

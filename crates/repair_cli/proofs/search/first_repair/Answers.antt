@@ -1,5 +1,4 @@
 use Rattle.std.proofs.Common.{rules, arith, sym, ap, length}
-use Rattle.std.specs.List.{All}
 use Rattle.std.proofs.lemmas.List.{take_all}
 use Rattle.std.proofs.lemmas.List.Elements.{All-same}
 use Rattle.c_types.specs.Shown.{tree_of}
