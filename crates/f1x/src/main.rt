@@ -1,6 +1,9 @@
 //! The program `f1x`, which repairs a C program over the tests of a suite.
 #![tactic(auto)]
 
+#[cfg(test)]
+mod tests;
+
 use fx_io::{HostFiles, HostSink};
 use repair_cli::run_alone;
 use std::env;
