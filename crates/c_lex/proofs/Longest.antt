@@ -1,84 +1,14 @@
 -- The longest piece at the front of a text.
-use Rattle.std.proofs.Common.{◌≡◌, ℕ, suc, ◌≤◌, Bool, true, false, ◌&&◌, ◌||◌, ◌==◌, if◌then◌else◌, [], ◌∷◌, ◌++◌, length, take, drop, refl, sym, ap, ◌∙◌, subst, arith, take-append-drop}
+use Rattle.std.proofs.Common.{◌≡◌, ℕ, suc, ◌+◌, ◌≤◌, ◌<◌, get_or, Bool, true, false, ◌||◌, ◌==◌, [], ◌∷◌, ◌++◌, length, take, drop, refl, sym, ap, ◌∙◌, subst, arith}
 use Rattle.std.specs.Char.{is_ascii_digit}
 use Rattle.std.proofs.lemmas.Bool.Decides.{nat_tests}
-use Rattle.std.proofs.lemmas.List.{length-take-le}
 use Rattle.c_lex.specs.declared.token.Punct.{Punct}
 use Rattle.c_lex.specs.Bytes.{Bytes, is_space, is_letter, is_word}
 use Rattle.c_lex.specs.Spellings.{punct_spelling}
-use Rattle.c_lex.specs.Pieces.{goes_on_word, goes_on_number, is_chain, is_identifier, is_number, IsPiece, IsLongest}
+use Rattle.c_lex.specs.Pieces.{goes_on_word, goes_on_number, is_chain, IsPiece, IsLongest, is_identifier, is_number}
 use Rattle.c_lex.specs.Reading.{chain_len}
 use Rattle.c_lex.proofs.Spelled.{is_elsewhere, punct_not_elsewhere}
-
--- ---- tests
-
--- what holds of two tests holds of the first
-pub both_left : (p q : Bool) → (p && q) ≡ true → p ≡ true
-both_left true q h = refl
-both_left false q h = absurd (cc)
-
--- what holds of two tests holds of the second
-pub both_right : (p q : Bool) → (p && q) ≡ true → q ≡ true
-both_right true q h = h
-both_right false q h = absurd (cc)
-
--- no byte is a letter and a digit
-pub letter_no_digit : (b : ℕ) → is_letter b ≡ true → is_ascii_digit b ≡ true → ⊥
-letter_no_digit b h d = grind (arith, nat_tests)
-
--- no punctuator begins with a letter
-pub letter_elsewhere : (b : ℕ) (w : Bytes) → is_letter b ≡ true → is_elsewhere (b ∷ w) ≡ true
-letter_elsewhere b w h = ap (λ x. x || is_ascii_digit b || is_space b || b == 35) h
-
--- no punctuator begins with a digit
-pub digit_elsewhere : (b : ℕ) (w : Bytes) → is_ascii_digit b ≡ true → is_elsewhere (b ∷ w) ≡ true
-digit_elsewhere b w h = by (is_letter b) (is_ascii_digit b) h
-  where
-    by : (x y : Bool) → y ≡ true → (x || y || is_space b || b == 35) ≡ true
-    by true y e = refl
-    by false true e = refl
-    by false false e = absurd (cc)
-
--- ---- runs
-
--- the step of `run_is_chain`, by whether the next byte goes on
-run_by : (goes : ℕ → ℕ → Bool) (before b : ℕ) (z : Bytes) (x : Bool) → goes before b ≡ x → is_chain goes b (take (chain_len goes b z) z) ≡ true
-    → is_chain goes before (take (if x then suc (chain_len goes b z) else 0) (b ∷ z)) ≡ true
-run_by goes before b z true e h = ap (λ y. y && is_chain goes b (take (chain_len goes b z) z)) e ∙ h
-run_by goes before b z false e h = refl
-
--- the bytes that go on are a chain
-run_is_chain : (goes : ℕ → ℕ → Bool) (before : ℕ) (z : Bytes) → is_chain goes before (take (chain_len goes before z) z) ≡ true
-run_is_chain goes before [] = refl
-run_is_chain goes before (b ∷ z) = run_by goes before b z (goes before b) refl (run_is_chain goes b z)
-
--- the step of `chain_within`, by whether the next byte goes on
-within_by : (goes : ℕ → ℕ → Bool) (before b : ℕ) (z v : Bytes) (x : Bool) → goes before b ≡ x → goes before b ≡ true → length v ≤ chain_len goes b z
-    → suc (length v) ≤ (if x then suc (chain_len goes b z) else 0)
-within_by goes before b z v true e g h = omega arith
-within_by goes before b z v false e g h = absurd (cc)
-
--- no longer front is a chain
-chain_within : (goes : ℕ → ℕ → Bool) (before : ℕ) (z v x : Bytes) → z ≡ v ++ x → is_chain goes before v ≡ true → length v ≤ chain_len goes before z
-chain_within goes before z [] x e h = omega arith
-chain_within goes before [] (c ∷ v) x e h = absurd (cc)
-chain_within goes before (b ∷ z) (c ∷ v) x e h =
-    let same : c ≡ b = cc in
-    let tail : z ≡ v ++ x = cc in
-    let here = both_left (goes before c) (is_chain goes c v) h in
-    let later = both_right (goes before c) (is_chain goes c v) h in
-    within_by goes before b z v (goes before b) refl (subst (λ y. goes before y ≡ true) same here)
-    (chain_within goes b z v x tail (subst (λ y. is_chain goes y v ≡ true) same later))
-
--- the step of `chain_len_within`, by whether the next byte goes on
-len_by : (x : Bool) (n m : ℕ) → n ≤ m → (if x then suc n else 0) ≤ suc m
-len_by true n m h = omega arith
-len_by false n m h = omega arith
-
--- no more bytes go on than there are
-pub chain_len_within : (goes : ℕ → ℕ → Bool) (before : ℕ) (z : Bytes) → chain_len goes before z ≤ length z
-chain_len_within goes before [] = omega arith
-chain_len_within goes before (b ∷ z) = len_by (goes before b) (chain_len goes b z) (length z) (chain_len_within goes b z)
+use Rattle.c_lex.proofs.Runs.{run_is_number, run_longest, word_is_identifier, both_left, letter_no_digit, both_right, letter_elsewhere, digit_elsewhere, same_front}
 
 -- ---- pieces by their first byte
 
@@ -122,28 +52,6 @@ no_piece (IsPiece.punctuator p f) c u e s =
 
 -- ---- the longest piece
 
--- a run is as long as each piece at its place that is a chain behind its first byte
-run_longest : (goes : ℕ → ℕ → Bool) (b : ℕ) (y v z : Bytes) → (b ∷ take (chain_len goes b y) y) ++ drop (chain_len goes b y) y ≡ v ++ z
-    → ((c : ℕ) (u : Bytes) → v ≡ c ∷ u → c ≡ b → is_chain goes c u ≡ true) → length v ≤ length (b ∷ take (chain_len goes b y) y)
-run_longest goes b y [] z e f = omega arith
-run_longest goes b y (c ∷ v) z e f =
-    let n = chain_len goes b y in
-    let whole : b ∷ y ≡ c ∷ (v ++ z) = ap (λ t. b ∷ t) (sym (take-append-drop n y)) ∙ e in
-    let same : c ≡ b = cc in
-    let tail : y ≡ v ++ z = cc in
-    let chain = subst (λ d. is_chain goes d v ≡ true) same (f c v refl same) in
-    let short = chain_within goes b y v z tail chain in
-    let fits = length-take-le n y (chain_len_within goes b y) in
-    omega arith
-
--- a letter and what goes on it are an identifier
-pub word_is_identifier : (b : ℕ) (y : Bytes) → is_letter b ≡ true → is_identifier (b ∷ take (chain_len goes_on_word b y) y) ≡ true
-word_is_identifier b y l = ap (λ x. x && is_chain goes_on_word b (take (chain_len goes_on_word b y) y)) l ∙ run_is_chain goes_on_word b y
-
--- a digit and what goes on it are a number
-pub run_is_number : (b : ℕ) (y : Bytes) → is_ascii_digit b ≡ true → is_number (b ∷ take (chain_len goes_on_number b y) y) ≡ true
-run_is_number b y l = ap (λ x. x && is_chain goes_on_number b (take (chain_len goes_on_number b y) y)) l ∙ run_is_chain goes_on_number b y
-
 -- the word at a letter is the longest piece there
 pub word_longest : (b : ℕ) (y : Bytes) → is_letter b ≡ true → IsLongest (b ∷ take (chain_len goes_on_word b y) y) (drop (chain_len goes_on_word b y) y)
 word_longest b y l = record {
@@ -157,3 +65,35 @@ number_longest b y l = record {
   piece = IsPiece.number (run_is_number b y l);
   longest = λ v z e p. run_longest goes_on_number b y v z e (λ c u i s. number_piece p c u i (subst (λ d. is_ascii_digit d ≡ true) (sym s) l));
 }
+
+-- ---- at the front of a text
+
+-- the longest piece at a letter is as long as its run
+pub word_front : (z : Bytes) (n : ℕ) → 0 < length z → is_letter (get_or z 0 0) ≡ true → n ≡ 1 + chain_len goes_on_word (get_or z 0 0) (drop 1 z)
+    → IsLongest (take n z) (drop n z) × (is_identifier (take n z) ≡ true)
+word_front [] n h l e = absurd (omega arith)
+word_front (b ∷ y) n h l e =
+    let f : suc (chain_len goes_on_word b y) ≡ n = omega arith in
+    subst (λ k. IsLongest (take k (b ∷ y)) (drop k (b ∷ y)) × (is_identifier (take k (b ∷ y)) ≡ true)) f (word_longest b y l, word_is_identifier b y l)
+
+-- the longest piece at a digit is as long as its run
+pub number_front : (z : Bytes) (n : ℕ) → 0 < length z → is_ascii_digit (get_or z 0 0) ≡ true → n ≡ 1 + chain_len goes_on_number (get_or z 0 0) (drop 1 z)
+    → IsLongest (take n z) (drop n z) × (is_number (take n z) ≡ true)
+number_front [] n h l e = absurd (omega arith)
+number_front (b ∷ y) n h l e =
+    let f : suc (chain_len goes_on_number b y) ≡ n = omega arith in
+    subst (λ k. IsLongest (take k (b ∷ y)) (drop k (b ∷ y)) × (is_number (take k (b ∷ y)) ≡ true)) f (number_longest b y l, run_is_number b y l)
+
+-- where a text begins no word and no number, each piece at its front is a punctuator
+pub other_front : (z v x : Bytes) → is_letter (get_or z 0 0) ≡ false → is_ascii_digit (get_or z 0 0) ≡ false → z ≡ v ++ x → IsPiece v → (p : Punct) × (v ≡ punct_spelling p)
+other_front z [] x l d e q = let h = piece_not_empty q in absurd (omega arith)
+other_front z (c ∷ u) x l d e q =
+    let first : get_or z 0 0 ≡ c = ap (λ y. get_or y 0 0) e in
+    other_piece q c u refl (subst (λ b. is_letter b ≡ false) first l) (subst (λ b. is_ascii_digit b ≡ false) first d)
+
+-- one longest piece at most stands at the front
+pub same_piece : (w rest v z : Bytes) → w ++ rest ≡ v ++ z → IsLongest w rest → IsLongest v z → (w ≡ v) × (rest ≡ z)
+same_piece w rest v z e h i =
+    let p = h.longest v z e i.piece in
+    let q = i.longest w rest (sym e) h.piece in
+    same_front w rest v z e (omega arith)

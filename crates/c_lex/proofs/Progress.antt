@@ -1,118 +1,162 @@
 -- A reading that has come to a place.
-use Rattle.std.proofs.Common.{◌≡◌, ℕ, ◌+◌, ◌≤◌, ◌<◌, true, false, List, [], ◌∷◌, ◌++◌, length, take, drop, get_or, take-append-drop, refl, sym, ap, ◌∙◌, subst, arith, append_assoc}
-use Rattle.std.proofs.lemmas.List.{append-nil, drop_more, drop-drop, length-drop, length-take-le}
+use Rattle.std.proofs.Common.{◌≡◌, ℕ, ℤ, ◌+◌, ◌-◌, ◌<◌, ◌≤◌, Bool, true, false, List, [], ◌∷◌, ◌++◌, length, take, drop, Ok, Err, refl, sym, ap, subst, arith, append_assoc}
+use Rattle.std.proofs.lemmas.List.{take_rest, append-nil, drop-drop, length-drop}
 use Rattle.c_lex.specs.declared.fault.LexFault.{LexFault}
-use Rattle.c_lex.specs.declared.fault.LexFault.TheVariants.{Unsupported, NoMemory}
+use Rattle.c_lex.specs.declared.front.Front.{Front}
+use Rattle.c_lex.specs.declared.front.Front.TheVariants as front
+use Rattle.c_lex.specs.declared.macros.MacroMap.{MacroMap}
 use Rattle.c_lex.specs.declared.token.TokenKind.{TokenKind}
-use Rattle.c_lex.specs.Bytes.{Bytes, is_space}
-use Rattle.c_lex.specs.Pieces.{IsLongest, opens_comment}
-use Rattle.c_lex.specs.Tokens.{Lexeme, IsToken, span_at, Tokens}
-use Rattle.c_lex.specs.Reading.{IsFront, NoFront, StopsAt, StopsFrom}
-use Rattle.c_lex.proofs.Longest.{piece_not_empty}
-use Rattle.c_lex.proofs.Cutting.{past_space, past_token}
+use Rattle.c_lex.specs.Bytes.{Bytes}
+use Rattle.c_lex.specs.Lexemes.{Lexeme, span_at, Rise}
+use Rattle.c_lex.specs.Openings.{opening_of}
+use Rattle.c_lex.specs.Tokens.{Macros, first_macros, Found, Outcome, also, Stands, Cuts, IsPlaced}
+use Rattle.c_lex.specs.Reading.{Knows}
+use Rattle.c_lex.proofs.Sizes.{IsWithin, stands_within}
 
--- the tokens of the whole text are those that were read, and then those of what is left
-pub record IsReadTo (start : ℕ) (whole : Bytes) (at : ℕ) (left : Bytes) (read : List Lexeme) : Type 0 where
-  pub forward : (us : List Lexeme) → Tokens at left us → Tokens start whole (read ++ us)
-  pub backward : (ts : List Lexeme) → Tokens start whole ts → (us : List Lexeme) × (ts ≡ read ++ us) × Tokens at left us
+-- ---- the steps of a cut
 
--- the reading begins with no token read
-pub read_none : (start : ℕ) (whole : Bytes) → IsReadTo start whole start whole []
-read_none start whole = record { forward = λ us d. d; backward = λ ts d. (ts, refl, d) }
+-- something is passed over
+cut_pass : {begun : Bool} {m : Macros} {at : ℕ} (z : Bytes) {r : Outcome} (len : ℕ) → 1 ≤ length z → Stands m at z begun (opening_of z) (Ok (front.Pass len))
+    → Cuts begun m (at + len) (drop len z) r → Cuts begun m at z r
+cut_pass [] len l s d = absurd (omega arith)
+cut_pass (b ∷ z) len l s d = Cuts.pass len s d
 
--- white space is passed over
-pub read_space : (start : ℕ) (whole : Bytes) (at b : ℕ) (z : Bytes) (read : List Lexeme)
-    → IsReadTo start whole at (b ∷ z) read → is_space b ≡ true → IsReadTo start whole (at + 1) z read
-read_space start whole at b z read h s = record {
-  forward = λ us d. h.forward us (Tokens.space s d);
-  backward = λ ts d. let p = h.backward ts d in (p.0, p.1, past_space s p.2);
+-- a macro is defined
+cut_define : {begun : Bool} {m : Macros} {at : ℕ} (z : Bytes) {r : Outcome} (name : Bytes) (value : ℤ) (len : ℕ) → 1 ≤ length z
+    → Stands m at z begun (opening_of z) (Ok (front.Define name value len)) → Cuts begun ((name, value) ∷ m) (at + len) (drop len z) r → Cuts begun m at z r
+cut_define [] name value len l s d = absurd (omega arith)
+cut_define (b ∷ z) name value len l s d = Cuts.define name value len s d
+
+-- a token is taken
+cut_token : {begun : Bool} {m : Macros} {at : ℕ} (z : Bytes) {r : Outcome} (kind : TokenKind) (len : ℕ) → 1 ≤ length z
+    → Stands m at z begun (opening_of z) (Ok (front.Take kind len)) → Cuts true m (at + len) (drop len z) r → Cuts begun m at z (also (kind, span_at at len) r)
+cut_token [] kind len l s d = absurd (omega arith)
+cut_token (b ∷ z) kind len l s d = Cuts.token kind len s d
+
+-- a fault ends the cut
+cut_stop : {begun : Bool} {m : Macros} {at : ℕ} (z : Bytes) (f : LexFault) → 1 ≤ length z → Stands m at z begun (opening_of z) (Err f) → Cuts begun m at z (Err f)
+cut_stop [] f l s = absurd (omega arith)
+cut_stop (b ∷ z) f l s = Cuts.stop f s
+
+-- ---- the reading
+
+-- the tokens that were read before the outcome of what is left
+abbrev pub after : List Lexeme → Outcome → Outcome
+after read (Ok ts) = Ok (read ++ ts)
+after read (Err f) = Err f
+
+-- one more token was read
+after_also : (read : List Lexeme) (t : Lexeme) (r : Outcome) → after read (also t r) ≡ after (read ++ t ∷ []) r
+after_also read t (Ok ts) = ap Ok (sym (append_assoc read (t ∷ []) ts))
+after_also read t (Err f) = refl
+
+-- the outcome of what is left, behind the tokens that were read, is the outcome of the whole text
+pub record IsReadTo (bytes : Bytes) (map : MacroMap) (begun : Bool) (at : ℕ) (read : List Lexeme) : Type 0 where
+  pub macros : Macros
+  pub known : Knows map macros
+  pub forward : (r : Outcome) → Cuts begun macros at (drop at bytes) r → Cuts false first_macros 0 bytes (after read r)
+
+-- nothing is read yet
+pub read_none : (bytes : Bytes) (map : MacroMap) → Knows map first_macros → IsReadTo bytes map false 0 []
+read_none bytes map known = record { macros = first_macros; known = known; forward = λ r d. subst (Cuts false first_macros 0 bytes) (all r) d }
+  where
+    all : (r : Outcome) → r ≡ after [] r
+    all (Ok ts) = refl
+    all (Err f) = refl
+
+-- with each list of macros that the map knows, this stands at the place
+abbrev pub Stood : MacroMap → Bool → ℕ → Bytes → Found → Type 0
+Stood map begun at bytes r = (m : Macros) → Knows map m → Stands m at (drop at bytes) begun (opening_of (drop at bytes)) r
+
+-- what is answered of the rest of a text stands at its place
+pub stood_at : (map : MacroMap) (begun : Bool) (at : ℕ) (bytes : Bytes) (found x : Front) → found ≡ x
+    → ((m : Macros) → Knows map m → Stands m at (take (length bytes - at) (drop at bytes)) begun (opening_of (take (length bytes - at) (drop at bytes))) (Ok found)) → Stood map begun at bytes (Ok x)
+stood_at map begun at bytes found x e h =
+    subst (λ y. Stood map begun at bytes (Ok y)) e
+    (subst (λ z. (m : Macros) → Knows map m → Stands m at z begun (opening_of z) (Ok found)) (take_rest bytes at) h)
+
+-- there is a byte at a place before the end
+some_left : (bytes : Bytes) (at : ℕ) → at < length bytes → 1 ≤ length (drop at bytes)
+some_left bytes at l = omega (arith, length-drop at bytes)
+
+-- something is passed over
+pub read_pass : (bytes : Bytes) (map : MacroMap) (begun : Bool) (at : ℕ) (read : List Lexeme) (len : ℕ) → at < length bytes → IsReadTo bytes map begun at read
+    → Stood map begun at bytes (Ok (front.Pass len)) → IsReadTo bytes map begun (at + len) read
+read_pass bytes map begun at read len l h s = record {
+  macros = h.macros;
+  known = h.known;
+  forward = λ r d. h.forward r (cut_pass (drop at bytes) len (some_left bytes at l) (s h.macros h.known) (subst (λ z. Cuts begun h.macros (at + len) z r) (sym (drop-drop len at bytes)) d));
 }
 
--- the token at the front is read
-pub read_token : (start : ℕ) (whole : Bytes) (at : ℕ) (z : Bytes) (read : List Lexeme) (kind : TokenKind) (w rest : Bytes)
-    → IsReadTo start whole at z read → z ≡ w ++ rest → opens_comment z ≡ false → IsLongest w rest → IsToken kind w
-    → IsReadTo start whole (at + length w) rest (read ++ (kind, span_at at (length w)) ∷ [])
-read_token start whole at z read kind w rest h e c l t = record {
-  forward = λ us d. subst (λ ts. Tokens start whole ts) (sym (append_assoc read ((kind, span_at at (length w)) ∷ []) us)) (h.forward ((kind, span_at at (length w)) ∷ us) (Tokens.token kind w rest e c l t d));
-  backward = λ ts d.
-      let p = h.backward ts d in
-      let q = past_token p.2 kind w rest e l t in
-      (q.0, p.1 ∙ ap (λ us. read ++ us) q.1 ∙ sym (append_assoc read ((kind, span_at at (length w)) ∷ []) q.0), q.2);
+-- a macro is defined
+pub read_define : (bytes : Bytes) (map more : MacroMap) (begun : Bool) (at : ℕ) (read : List Lexeme) (name : Bytes) (value : ℤ) (len : ℕ) → at < length bytes → IsReadTo bytes map begun at read
+    → Stood map begun at bytes (Ok (front.Define name value len))
+    → ((m : Macros) → Knows map m → Knows more ((name, value) ∷ m)) → IsReadTo bytes more begun (at + len) read
+read_define bytes map more begun at read name value len l h s k = record {
+  macros = (name, value) ∷ h.macros;
+  known = k h.macros h.known;
+  forward = λ r d. h.forward r (cut_define (drop at bytes) name value len (some_left bytes at l) (s h.macros h.known) (subst (λ z. Cuts begun ((name, value) ∷ h.macros) (at + len) z r) (sym (drop-drop len at bytes)) d));
 }
 
--- at the end all tokens are read
-pub read_all : (start : ℕ) (whole : Bytes) (at : ℕ) (read : List Lexeme) → IsReadTo start whole at [] read → Tokens start whole read
-read_all start whole at read h = subst (λ ts. Tokens start whole ts) (append-nil read) (h.forward [] Tokens.done)
+-- a token is read
+pub read_token : (bytes : Bytes) (map : MacroMap) (begun : Bool) (at : ℕ) (read : List Lexeme) (kind : TokenKind) (len : ℕ) → at < length bytes → IsReadTo bytes map begun at read
+    → Stood map begun at bytes (Ok (front.Take kind len))
+    → IsReadTo bytes map true (at + len) (read ++ (kind, span_at at len) ∷ [])
+read_token bytes map begun at read kind len l h s = record {
+  macros = h.macros;
+  known = h.known;
+  forward = λ r d. subst (Cuts false first_macros 0 bytes) (after_also read (kind, span_at at len) r)
+      (h.forward (also (kind, span_at at len) r) (cut_token (drop at bytes) kind len (some_left bytes at l) (s h.macros h.known) (subst (λ z. Cuts true h.macros (at + len) z r) (sym (drop-drop len at bytes)) d)));
+}
 
--- no token stands where a comment begins
-comment_stops_by : {at b : ℕ} {z : Bytes} {us : List Lexeme} → Tokens at (b ∷ z) us → opens_comment (b ∷ z) ≡ true → is_space b ≡ false → ⊥
-comment_stops_by (Tokens.space e d) c s = absurd (cc)
-comment_stops_by (Tokens.token kind w rest e f l t d) c s = absurd (cc)
+-- a fault ends the reading
+pub read_stop : (bytes : Bytes) (map : MacroMap) (begun : Bool) (at : ℕ) (read : List Lexeme) (f : LexFault) → at < length bytes → IsReadTo bytes map begun at read
+    → Stood map begun at bytes (Err f) → Cuts false first_macros 0 bytes (Err f)
+read_stop bytes map begun at read f l h s = h.forward (Err f) (cut_stop (drop at bytes) f (some_left bytes at l) (s h.macros h.known))
 
--- a comment ends the tokens
-pub comment_stops : (start : ℕ) (whole : Bytes) (at b : ℕ) (z : Bytes) (read : List Lexeme)
-    → IsReadTo start whole at (b ∷ z) read → opens_comment (b ∷ z) ≡ true → is_space b ≡ false → (ts : List Lexeme) → Tokens start whole ts → ⊥
-comment_stops start whole at b z read h c s ts d = let p = h.backward ts d in comment_stops_by p.2 c s
+-- what stands at a place before the end has a byte, and ends in the text
+pub read_within : (bytes : Bytes) (map : MacroMap) (begun : Bool) (at : ℕ) (read : List Lexeme) (r : Found) → at < length bytes → IsReadTo bytes map begun at read
+    → Stood map begun at bytes r → IsWithin at (length bytes - at) r
+read_within bytes map begun at read r l h s =
+    subst (λ n. IsWithin at n r) (length-drop at bytes) (stands_within (s h.macros h.known) refl (some_left bytes at l))
 
--- where no token stands at the front, the text has none
-front_stops_by : {at b : ℕ} {z : Bytes} {us : List Lexeme} → Tokens at (b ∷ z) us → NoFront (b ∷ z) → is_space b ≡ false → ⊥
-front_stops_by (Tokens.space e d) f s = absurd (cc)
-front_stops_by (Tokens.token kind w rest e c l t d) f s = f kind w rest e l t
+-- at the end all is read
+pub read_all : (bytes : Bytes) (map : MacroMap) (begun : Bool) (at : ℕ) (read : List Lexeme) → drop at bytes ≡ [] → IsReadTo bytes map begun at read → Cuts false first_macros 0 bytes (Ok read)
+read_all bytes map begun at read e h =
+    subst (λ ts. Cuts false first_macros 0 bytes (Ok ts)) (append-nil read) (h.forward (Ok []) (subst (λ z. Cuts begun h.macros at z (Ok [])) (sym e) Cuts.done))
 
--- what has no token ends the tokens
-pub front_stops : (start : ℕ) (whole : Bytes) (at b : ℕ) (z : Bytes) (read : List Lexeme)
-    → IsReadTo start whole at (b ∷ z) read → NoFront (b ∷ z) → is_space b ≡ false → (ts : List Lexeme) → Tokens start whole ts → ⊥
-front_stops start whole at b z read h f s ts d = let p = h.backward ts d in front_stops_by p.2 f s
+-- ---- places
 
--- ---- at a place of the text
+-- the spans of tokens rise, and a fault's place is at most `end`
+abbrev IsPlacedFrom : ℕ → ℕ → Outcome → Type 0
+IsPlacedFrom at end (Ok ts) = Rise at end ts
+IsPlacedFrom at end (Err f) = IsPlaced end f
 
--- `read_space` at a place of the text
-pub step_space : (start : ℕ) (whole bytes : Bytes) (at : ℕ) (read : List Lexeme) → at < length bytes
-    → IsReadTo start whole at (drop at bytes) read → is_space (get_or (drop at bytes) 0 0) ≡ true → IsReadTo start whole (at + 1) (drop (at + 1) bytes) read
-step_space start whole bytes at read h r s =
-    let e = drop_more bytes at 0 h in
-    read_space start whole at (get_or bytes at 0) (drop (at + 1) bytes) read
-    (subst (λ z. IsReadTo start whole at z read) e r) (subst (λ z. is_space (get_or z 0 0) ≡ true) e s)
+-- spans that rise from a place on rise from an earlier one on
+placed_earlier : (from at end : ℕ) (r : Outcome) → from ≤ at → IsPlacedFrom at end r → IsPlacedFrom from end r
+placed_earlier from at end (Ok []) l h = omega arith
+placed_earlier from at end (Ok (t ∷ ts)) l h = (omega (arith, h.0), h.1, h.2)
+placed_earlier from at end (Err f) l h = h
 
--- `read_token` at a place of the text
-pub step_token : (start : ℕ) (whole bytes : Bytes) (at : ℕ) (read : List Lexeme) (kind : TokenKind) (len : ℕ)
-    → IsReadTo start whole at (drop at bytes) read → opens_comment (drop at bytes) ≡ false → IsFront kind len (drop at bytes)
-    → IsReadTo start whole (at + len) (drop (at + len) bytes) (read ++ (kind, span_at at len) ∷ [])
-step_token start whole bytes at read kind len r c f =
-    let z = drop at bytes in
-    let size = length-take-le len z f.within in
-    subst (λ y. IsReadTo start whole (at + len) y (read ++ (kind, span_at at len) ∷ [])) (drop-drop len at bytes)
-    (subst (λ n. IsReadTo start whole (at + n) (drop len z) (read ++ (kind, span_at at n) ∷ [])) size
-    (read_token start whole at z read kind (take len z) (drop len z) r (sym (take-append-drop len z)) c f.longest f.token))
+-- a token before what is placed behind it
+placed_also : (at end : ℕ) (kind : TokenKind) (len : ℕ) (r : Outcome) → 1 ≤ len → IsPlacedFrom (at + len) end r → IsPlacedFrom at end (also (kind, span_at at len) r)
+placed_also at end kind len (Ok ts) l h = (omega arith, omega arith, h)
+placed_also at end kind len (Err f) l h = h
 
--- `comment_stops` at a place of the text
-pub comment_stops_at : (start : ℕ) (whole bytes : Bytes) (at : ℕ) (read : List Lexeme) → at < length bytes
-    → IsReadTo start whole at (drop at bytes) read → is_space (get_or (drop at bytes) 0 0) ≡ false → opens_comment (drop at bytes) ≡ true
-    → (ts : List Lexeme) → Tokens start whole ts → ⊥
-comment_stops_at start whole bytes at read h r s c =
-    let e = drop_more bytes at 0 h in
-    comment_stops start whole at (get_or bytes at 0) (drop (at + 1) bytes) read
-    (subst (λ z. IsReadTo start whole at z read) e r) (subst (λ z. opens_comment z ≡ true) e c) (subst (λ z. is_space (get_or z 0 0) ≡ false) e s)
+-- what is left behind some bytes ends at the same place
+same_end : (at len : ℕ) (z : Bytes) → len ≤ length z → at + len + length (drop len z) ≡ at + length z
+same_end at len z l = omega (arith, length-drop len z)
 
--- `front_stops` at a place of the text
-pub front_stops_at : (start : ℕ) (whole bytes : Bytes) (at : ℕ) (read : List Lexeme) → at < length bytes
-    → IsReadTo start whole at (drop at bytes) read → is_space (get_or (drop at bytes) 0 0) ≡ false → NoFront (drop at bytes)
-    → (ts : List Lexeme) → Tokens start whole ts → ⊥
-front_stops_at start whole bytes at read h r s f =
-    let e = drop_more bytes at 0 h in
-    front_stops start whole at (get_or bytes at 0) (drop (at + 1) bytes) read
-    (subst (λ z. IsReadTo start whole at z read) e r) (subst NoFront e f) (subst (λ z. is_space (get_or z 0 0) ≡ false) e s)
-
--- why the reading stops at a place is why the text has no tokens
-pub stops_at : (start : ℕ) (whole bytes : Bytes) (at : ℕ) (read : List Lexeme) (fault : LexFault) → at < length bytes
-    → IsReadTo start whole at (drop at bytes) read → is_space (get_or (drop at bytes) 0 0) ≡ false → StopsAt (drop at bytes) fault → StopsFrom start whole fault
-stops_at start whole bytes at read Unsupported h r s f = front_stops_at start whole bytes at read h r s f
-stops_at start whole bytes at read NoMemory h r s f = tt
-
--- a token takes a byte at least, and ends within the text
-pub front_size : (bytes : Bytes) (at : ℕ) (kind : TokenKind) (len : ℕ) → IsFront kind len (drop at bytes) → at < length bytes → (1 ≤ len) × (at + len ≤ length bytes)
-front_size bytes at kind len f h =
-    let some = piece_not_empty f.longest.piece in
-    let size = length-take-le len (drop at bytes) f.within in
-    let left = length-drop at bytes in
-    (omega arith, omega (arith, f.within))
+-- the outcome of a text is placed in it
+pub cuts_placed : {begun : Bool} {m : Macros} {at : ℕ} {z : Bytes} {r : Outcome} → Cuts begun m at z r → IsPlacedFrom at (at + length z) r
+cuts_placed Cuts.done = omega arith
+cuts_placed (Cuts.pass {begun} {m} {at} {b} {z} {r} len s d) =
+    let w = stands_within s refl (omega arith) in
+    placed_earlier at (at + len) (at + length (b ∷ z)) r (omega arith) (subst (λ n. IsPlacedFrom (at + len) n r) (same_end at len (b ∷ z) w.1) (cuts_placed d))
+cuts_placed (Cuts.define {begun} {m} {at} {b} {z} {r} name value len s d) =
+    let w = stands_within s refl (omega arith) in
+    placed_earlier at (at + len) (at + length (b ∷ z)) r (omega arith) (subst (λ n. IsPlacedFrom (at + len) n r) (same_end at len (b ∷ z) w.1) (cuts_placed d))
+cuts_placed (Cuts.token {begun} {m} {at} {b} {z} {r} kind len s d) =
+    let w = stands_within s refl (omega arith) in
+    placed_also at (at + length (b ∷ z)) kind len r w.0 (subst (λ n. IsPlacedFrom (at + len) n r) (same_end at len (b ∷ z) w.1) (cuts_placed d))
+cuts_placed (Cuts.stop f s) = stands_within s refl (omega arith)

@@ -1,47 +1,45 @@
--- The tokens of a source with or without its first line.
-use Rattle.std.proofs.Common.{◌≡◌, ◌+◌, Bool, true, eqb, List, [], ◌∷◌, ◌++◌, length, drop, codes, sym, ap, ◌∙◌, subst, arith, length-append}
-use Rattle.std.specs.List.{starts_with}
-use Rattle.std.proofs.lemmas.Bool.Decides.{Decides-eqb}
-use Rattle.std.proofs.lemmas.List.{append_cancel_left}
-use Rattle.std.proofs.lemmas.Slice.Eq.{starts_is}
+-- The outcome of a whole source.
+use Rattle.std.proofs.Common.{◌≡◌, ◌≢◌, ◌+◌, Bool, true, false, ◌||◌, List, length, Ok, Err, subst, arith}
 use Rattle.c_lex.specs.declared.fault.LexFault.{LexFault}
-use Rattle.c_lex.specs.declared.fault.LexFault.TheVariants.{Unsupported, NoMemory}
+use Rattle.c_lex.specs.declared.fault.LexFault.TheVariants as fault
 use Rattle.c_lex.specs.Bytes.{Bytes}
-use Rattle.c_lex.specs.Tokens.{Lexeme, Tokens, include_line, IsTokens, Rise}
-use Rattle.c_lex.specs.Reading.{StopsFrom, Causes}
-use Rattle.c_lex.proofs.Cutting.{hash_no_tokens, later_rise, tokens_rise}
+use Rattle.c_lex.specs.Lexemes.{Lexeme, Rise}
+use Rattle.c_lex.specs.Places.{is_splice, is_trigraph, is_refused}
+use Rattle.c_lex.specs.Tokens.{first_macros, Cuts, Lexes, IsPlaced}
+use Rattle.c_lex.proofs.Progress.{cuts_placed}
 
--- whether a source begins with the line
-pub begins_is : (bytes : Bytes) (r : Bool) → r ≡ starts_with eqb bytes include_line
-    → (r ≡ true → bytes ≡ include_line ++ drop 19 bytes) × ((rest : Bytes) → bytes ≡ include_line ++ rest → r ≡ true)
-begins_is bytes r e = starts_is Decides-eqb bytes include_line r e
+-- what is refused and is no splice is a trigraph
+pub other_is_trigraph : (z : Bytes) → is_refused z ≡ true → is_splice z ≡ false → is_trigraph z ≡ true
+other_is_trigraph z h s = by (is_splice z) (is_trigraph z) h s
+  where
+    by : (x y : Bool) → (x || y) ≡ true → x ≡ false → y ≡ true
+    by true y h s = absurd (cc)
+    by false y h s = h
 
--- behind the line the spans rise up to the end
-pub included_rise : (bytes : Bytes) (ts : List Lexeme) → bytes ≡ include_line ++ drop 19 bytes → Tokens 19 (drop 19 bytes) ts → Rise 0 (length bytes) ts
-included_rise bytes ts e d =
-    let f : 19 + length (drop 19 bytes) ≡ length bytes = omega (arith, ap length e, length-append include_line (drop 19 bytes)) in
-    later_rise 0 19 (length bytes) ts (omega arith) (subst (λ n. Rise 19 n ts) f (tokens_rise d))
+-- the spans of a source's tokens rise
+pub source_rise : (bytes : Bytes) (ts : List Lexeme) → Cuts false first_macros 0 bytes (Ok ts) → Rise 0 (length bytes) ts
+source_rise bytes ts d = let same : 0 + length bytes ≡ length bytes = omega arith in subst (λ n. Rise 0 n ts) same (cuts_placed d)
 
--- without the line the spans rise up to the end
-pub plain_rise : (bytes : Bytes) (ts : List Lexeme) → Tokens 0 bytes ts → Rise 0 (length bytes) ts
-plain_rise bytes ts d = let f : 0 + length bytes ≡ length bytes = omega arith in subst (λ n. Rise 0 n ts) f (tokens_rise d)
+-- a fault of a source stands in it
+fault_placed : (bytes : Bytes) (f : LexFault) → Cuts false first_macros 0 bytes (Err f) → IsPlaced (length bytes) f
+fault_placed bytes f d = let same : 0 + length bytes ≡ length bytes = omega arith in subst (λ n. IsPlaced n f) same (cuts_placed d)
 
--- a source with the line has no tokens where what follows has none
-included_none : (bytes : Bytes) (ts : List Lexeme) → bytes ≡ include_line ++ drop 19 bytes → ((us : List Lexeme) → Tokens 19 (drop 19 bytes) us → ⊥) → IsTokens bytes ts → ⊥
-included_none bytes ts e f (IsTokens.plain d) = hash_no_tokens d (codes "include <stdio.h>" ++ 10 ∷ [] ++ drop 19 bytes) e
-included_none bytes ts e f (IsTokens.included rest g d) = f ts (subst (λ z. Tokens 19 z ts) (append_cancel_left include_line rest (drop 19 bytes) (sym g ∙ e)) d)
+-- the place of what is answered, if it has one
+pub answer_placed : (bytes : Bytes) (f : LexFault) → (f ≢ fault.NoMemory → Cuts false first_macros 0 bytes (Err f)) → IsPlaced (length bytes) f
+answer_placed bytes fault.NoMemory h = tt
+answer_placed bytes f h = fault_placed bytes f (h (λ e. cc))
 
--- why a source with the line has no tokens
-pub included_causes : (bytes : Bytes) (fault : LexFault) → bytes ≡ include_line ++ drop 19 bytes → StopsFrom 19 (drop 19 bytes) fault → Causes bytes fault
-included_causes bytes Unsupported e f = λ ts d. included_none bytes ts e f d
-included_causes bytes NoMemory e f = tt
+-- the spans of the tokens of a text rise
+pub spans_rise : (bytes : Bytes) (ts : List Lexeme) → Lexes bytes (Ok ts) → Rise 0 (length bytes) ts
+spans_rise bytes ts (Lexes.cut n d) = source_rise bytes ts d
 
--- a source without the line has no tokens where the whole text has none
-plain_none : (bytes : Bytes) (ts : List Lexeme) → ((rest : Bytes) → bytes ≡ include_line ++ rest → ⊥) → ((us : List Lexeme) → Tokens 0 bytes us → ⊥) → IsTokens bytes ts → ⊥
-plain_none bytes ts e f (IsTokens.plain d) = f ts d
-plain_none bytes ts e f (IsTokens.included rest g d) = e rest g
+-- the first fault of a text stands in it
+pub outcome_placed : (bytes : Bytes) (f : LexFault) → Lexes bytes (Err f) → IsPlaced (length bytes) f
+outcome_placed bytes f (Lexes.splice n i h) = i.within
+outcome_placed bytes f (Lexes.trigraph n i h) = i.within
+outcome_placed bytes f (Lexes.cut n d) = fault_placed bytes f d
 
--- why a source without the line has no tokens
-pub plain_causes : (bytes : Bytes) (fault : LexFault) → ((rest : Bytes) → bytes ≡ include_line ++ rest → ⊥) → StopsFrom 0 bytes fault → Causes bytes fault
-plain_causes bytes Unsupported e f = λ ts d. plain_none bytes ts e f d
-plain_causes bytes NoMemory e f = tt
+-- so does what is answered, if it has a place
+pub fault_placed_unless : (bytes : Bytes) (f : LexFault) → (f ≢ fault.NoMemory → Lexes bytes (Err f)) → IsPlaced (length bytes) f
+fault_placed_unless bytes fault.NoMemory h = tt
+fault_placed_unless bytes f h = outcome_placed bytes f (h (λ e. cc))

@@ -11,7 +11,7 @@ use Rattle.c_lex.specs.declared.spelling.TheConstants.{KEYWORDS, PUNCTUATORS}
 use Rattle.c_lex.specs.Bytes.{Bytes, is_space, is_word}
 use Rattle.c_lex.specs.Spellings.{keyword_spelling, punct_spelling}
 use Rattle.c_lex.specs.Pieces.{is_identifier}
-use Rattle.c_lex.specs.Reading.{lookup}
+use Rattle.c_lex.specs.Spellings.{lookup}
 
 -- each entry of a table has its own spelling
 abbrev is_spelled : {A : Type 0} → (A → Bytes) → List (Bytes × A) → Bool

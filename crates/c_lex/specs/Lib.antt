@@ -1,5 +1,12 @@
 pub mod Bytes
 pub mod Spellings
 pub mod Pieces
-pub mod Tokens
+pub mod Lexemes
 pub mod Reading
+pub mod Constants
+pub mod LiteralReading
+pub mod Places
+pub mod Openings
+pub mod Directives
+pub mod Tokens
+pub mod DirectiveReading

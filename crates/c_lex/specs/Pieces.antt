@@ -38,8 +38,3 @@ pub data IsPiece : Bytes → Type 0 where
 pub record IsLongest (w rest : Bytes) : Type 0 where
   pub piece : IsPiece w
   pub longest : (v z : Bytes) → w ++ rest ≡ v ++ z → IsPiece v → length v ≤ length w
-
--- whether a comment begins here (C11 6.4.9)
-abbrev pub opens_comment : Bytes → Bool
-opens_comment (b ∷ c ∷ z) = b == 47 && (c == 47 || c == 42)
-opens_comment _ = false

@@ -1,19 +1,20 @@
 -- What the parts of the reading say of the text in front of them.
-use Rattle.std.specs.Prelude.{◌≡◌, ℕ, suc, ◌≤◌, Bool, if◌then◌else◌, List, [], ◌∷◌, ◌++◌, length, take, drop, Option, Some, None}
-use Rattle.std.specs.Str.{bytes_eq}
-use Rattle.c_lex.specs.declared.fault.LexFault.{LexFault}
-use Rattle.c_lex.specs.declared.fault.LexFault.TheVariants.{Unsupported, NoMemory}
+use Rattle.std.specs.Prelude.{◌≡◌, ◌≢◌, ℕ, ℤ, suc, Bool, if◌then◌else◌, [], ◌∷◌, ◌++◌, length, Option, Ok, Err}
+use Rattle.std.specs.BTreeMap.{get_by}
+use Rattle.std.specs.Cmp.Lexicographic.{slice_cmp}
+use Rattle.std.specs.Ordering.{nat_cmp}
+use Rattle.c_lex.specs.declared.fault.LexFault.TheVariants.{NoMemory}
+use Rattle.c_lex.specs.declared.macros.MacroMap.{MacroMap}
+use Rattle.c_lex.specs.declared.mark.Mark.{Mark}
+use Rattle.c_lex.specs.declared.mark.Mark.TheVariants as mark
+use Rattle.c_lex.specs.declared.token.Punct.{Punct}
 use Rattle.c_lex.specs.declared.piece.Run.{Run}
 use Rattle.c_lex.specs.declared.piece.Run.TheVariants as run
-use Rattle.c_lex.specs.declared.token.TokenKind.{TokenKind}
 use Rattle.c_lex.specs.Bytes.{Bytes}
-use Rattle.c_lex.specs.Pieces.{goes_on_word, goes_on_number, IsLongest}
-use Rattle.c_lex.specs.Tokens.{Lexeme, IsToken, Tokens, IsTokens}
-
--- the first entry of a table of spellings that is spelled so
-abbrev pub lookup : {A : Type 0} → List (Bytes × A) → Bytes → Option A
-lookup [] word = None
-lookup (entry ∷ table) word = if bytes_eq entry.0 word then Some entry.1 else lookup table word
+use Rattle.c_lex.specs.Spellings.{punct_spelling, lookup}
+use Rattle.c_lex.specs.Pieces.{goes_on_word, goes_on_number, IsPiece, IsLongest}
+use Rattle.c_lex.specs.Places.{is_refused, is_comment_end, is_line_end}
+use Rattle.c_lex.specs.Tokens.{Macros, Found}
 
 -- what goes on a run
 abbrev pub goes_on : Run → ℕ → ℕ → Bool
@@ -25,27 +26,29 @@ abbrev pub chain_len : (ℕ → ℕ → Bool) → ℕ → Bytes → ℕ
 chain_len goes before [] = 0
 chain_len goes before (b ∷ z) = if goes before b then suc (chain_len goes b z) else 0
 
--- the first `len` bytes are the longest piece at the front, and a token
-pub record IsFront (kind : TokenKind) (len : ℕ) (z : Bytes) : Type 0 where
-  pub within : len ≤ length z
-  pub longest : IsLongest (take len z) (drop len z)
-  pub token : IsToken kind (take len z)
+-- what stands where a mark stands
+abbrev pub test_of : Mark → Bytes → Bool
+test_of mark.Refused = is_refused
+test_of mark.CommentEnd = is_comment_end
+test_of mark.LineEnd = is_line_end
 
--- no token stands at the front
-abbrev pub NoFront : Bytes → Type 0
-NoFront z = (kind : TokenKind) (w rest : Bytes) → z ≡ w ++ rest → IsLongest w rest → IsToken kind w → ⊥
+-- the value that a map of macros has for a name
+abbrev pub value_in : MacroMap → Bytes → Option ℤ
+value_in map word = get_by (λ k. slice_cmp nat_cmp word k.items) map.values
 
--- why there is no token at the front; want of memory has no cause
-abbrev pub StopsAt : Bytes → LexFault → Type 0
-StopsAt z Unsupported = NoFront z
-StopsAt z NoMemory = Unit {0}
+-- a map has the values of these macros
+abbrev pub Knows : MacroMap → Macros → Type 0
+Knows map m = (word : Bytes) → value_in map word ≡ lookup m word
 
--- why there are no tokens from a place on
-abbrev pub StopsFrom : ℕ → Bytes → LexFault → Type 0
-StopsFrom at z Unsupported = (ts : List Lexeme) → Tokens at z ts → ⊥
-StopsFrom at z NoMemory = Unit {0}
+-- what is answered of what stands at a place; want of memory has no cause
+abbrev pub Finds : (Found → Type 0) → Found → Type 0
+Finds P (Ok front) = P (Ok front)
+Finds P (Err f) = f ≢ NoMemory → P (Err f)
 
--- why a source has no tokens; want of memory has no cause
-abbrev pub Causes : Bytes → LexFault → Type 0
-Causes bytes Unsupported = (ts : List Lexeme) → IsTokens bytes ts → ⊥
-Causes bytes NoMemory = Unit {0}
+-- the punctuator of `len` bytes is the longest piece at the front
+abbrev pub IsMark : Bytes → Punct → ℕ → Type 0
+IsMark z p len = (rest : Bytes) × (z ≡ punct_spelling p ++ rest) × (length (punct_spelling p) ≡ len) × IsLongest (punct_spelling p) rest
+
+-- no piece stands at the front
+abbrev pub NoPiece : Bytes → Type 0
+NoPiece z = (w rest : Bytes) → z ≡ w ++ rest → IsPiece w → ⊥

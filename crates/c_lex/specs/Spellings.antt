@@ -1,5 +1,6 @@
 -- The spellings of keywords (C11 6.4.1) and punctuators (C11 6.4.6).
-use Rattle.std.specs.Prelude.{codes}
+use Rattle.std.specs.Prelude.{if◌then◌else◌, List, [], ◌∷◌, Option, Some, None, codes}
+use Rattle.std.specs.Str.{bytes_eq}
 use Rattle.c_lex.specs.declared.token.Keyword.{Keyword}
 use Rattle.c_lex.specs.declared.token.Keyword.TheVariants as keyword
 use Rattle.c_lex.specs.declared.token.Punct.{Punct}
@@ -98,3 +99,8 @@ punct_spelling punct.OrAssign = codes "|="
 punct_spelling punct.Xor = codes "^"
 punct_spelling punct.XorAssign = codes "^="
 punct_spelling punct.Tilde = codes "~"
+
+-- the first entry of a table of spellings that is spelled so
+abbrev pub lookup : {A : Type 0} → List (Bytes × A) → Bytes → Option A
+lookup [] word = None
+lookup (entry ∷ table) word = if bytes_eq entry.0 word then Some entry.1 else lookup table word

@@ -2,7 +2,6 @@
 
 ghost use Rattle.std.specs.Prelude.{◌≡◌, ◌+◌, ◌<◌, ◌≤◌, length, drop, slice_index};
 ghost use Rattle.c_lex.specs.Bytes as bytes;
-ghost use Rattle.c_lex.specs.Pieces as pieces;
 ghost use Rattle.c_lex.specs.Reading as spec;
 
 /// The pieces that go on as long as their next byte may follow.
@@ -67,14 +66,4 @@ pub fn run_len(run: Run, text: &[u8]) -> usize
         len += 1;
     }
     len
-}
-
-/// Whether a comment begins the text.
-pub fn opens_comment(text: &[u8]) -> bool
-    ensures { result ≡ pieces.opens_comment text.now }
-{
-    match text {
-        [b'/', b'/' | b'*', ..] => true,
-        _ => false,
-    }
 }

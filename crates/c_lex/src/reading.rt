@@ -1,74 +1,74 @@
 //! The tokens of a whole source.
 
-ghost use Rattle.std.specs.Prelude.{◌≡◌, ℕ, ◌<◌, ◌≤◌, ◌^◌, List, length, drop, IfOk, IfErr};
+ghost use Rattle.std.specs.Prelude.{◌≡◌, ◌≢◌, ◌<◌, ◌≤◌, ◌^◌, false, length, Ok, Err, IfOk, IfErr};
+ghost use Rattle.c_lex.specs.declared.fault.LexFault.TheVariants as fault;
 ghost use Rattle.c_lex.specs.Bytes.{Bytes};
-ghost use Rattle.c_lex.specs.Reading.{StopsFrom, Causes};
-ghost use Rattle.c_lex.specs.Tokens.{Lexeme, Tokens, IsTokens, Rise};
+ghost use Rattle.c_lex.specs.Lexemes.{Rise};
+ghost use Rattle.c_lex.specs.Tokens.{Outcome, Cuts, first_macros, Lexes, IsPlaced};
 
 use crate::fault::LexFault;
-use crate::front::first_token;
-use crate::piece::{is_space, opens_comment};
+use crate::front::{Front, front_of};
+use crate::macros::MacroMap;
+use crate::mark::{Mark, find, is_splice};
 use crate::token::Token;
 use c_tree::Span;
 use std::alloc::Global;
 
-const INCLUDE_LINE: &[u8] = b"#include <stdio.h>\n";
-
-// The tokens from a place on, with places counted from the begin of the text.
-fn tokens_from(alloc: Global, bytes: &[u8], start: usize) -> Result<Vec<Token>, LexFault>
-    requires places { length bytes.now < 2 ^ 32 }
-    requires within { start ≤ length bytes.now }
-    ensures ok { IfOk result (λ tokens. Tokens start (drop start bytes.now) tokens.items) }
-    ensures err { IfErr result (StopsFrom start (drop start bytes.now)) }
+// The tokens of a source in which nothing is refused wherever it stands.
+fn tokens_of(alloc: Global, bytes: &[u8]) -> Result<Vec<Token>, LexFault>
+    requires { length bytes.now < 2 ^ 32 }
+    ensures ok { IfOk result (λ tokens. Cuts false first_macros 0 bytes.now (Ok tokens.items)) }
+    ensures err { IfErr result (λ f. f ≢ fault.NoMemory → Cuts false first_macros 0 bytes.now (Err f)) }
 {
+    let mut macros = MacroMap::new(alloc)?;
     let mut tokens = Vec::new(alloc);
-    let mut at = start;
+    let mut begun = false;
+    let mut at = 0;
     while at < bytes.len() {
-        let rest = &bytes[at..];
-        if is_space(rest[0]) {
-            at += 1;
-        } else if opens_comment(rest) {
-            return Err(LexFault::Unsupported);
-        } else {
-            let front = first_token(alloc, rest)?;
-            let end = at + front.len;
-            let span = Span {
-                from: at as u32,
-                to: end as u32,
-            };
-            tokens.push(Token {
-                kind: front.kind,
-                span,
-            })?;
-            at = end;
+        let found = front_of(alloc, &macros, begun, at, &bytes[at..])?;
+        match found {
+            Front::Pass(len) => at += len,
+            Front::Define { name, value, len } => {
+                macros.define(name, value)?;
+                at += len;
+            }
+            Front::Take { kind, len } => {
+                let span = Span {
+                    from: at as u32,
+                    to: (at + len) as u32,
+                };
+                tokens.push(Token { kind, span })?;
+                begun = true;
+                at += len;
+            }
         }
     }
     Ok(tokens)
 }
 
-/// The tokens of a source (C11 6.4), each the longest at its place, with the bytes that it covers. The source may
-/// begin with the line `#include <stdio.h>`; it has no comment, no other directive and no literal but decimal
-/// constants.
+/// The tokens of a source (C11 6.4), each with the bytes that it covers. The head of a source may include <stdio.h> and
+/// <stdlib.h> and define macros of integer constants, whose names are constants in what follows.
 ///
 /// # Errors
-/// `Unsupported` exactly where the source can't be cut into such tokens, and `NoMemory` where the allocator has no
-/// memory left.
+/// The first fault of the source, with its place: a line splice or a trigraph where there is one anywhere, else what the
+/// reading from the left meets first. `NoMemory` where the allocator has no memory left.
 pub fn lex(alloc: Global, bytes: &[u8]) -> Result<Vec<Token>, LexFault>
     requires { length bytes.now < 2 ^ 32 }
-    ensures ok { IfOk result (λ tokens. IsTokens bytes.now tokens.items) }
+    ensures ok { IfOk result (λ tokens. Lexes bytes.now (Ok tokens.items)) }
     ensures rise { IfOk result (λ tokens. Rise 0 (length bytes.now) tokens.items) }
-    ensures err { IfErr result (Causes bytes.now) }
+    ensures err { IfErr result (λ f. f ≢ fault.NoMemory → Lexes bytes.now (Err f)) }
+    ensures place { IfErr result (IsPlaced (length bytes.now)) }
 {
-    if bytes.starts_with(INCLUDE_LINE) {
-        tokens_from(alloc, bytes, INCLUDE_LINE.len())
-    } else {
-        tokens_from(alloc, bytes, 0)
+    match find(Mark::Refused, bytes) {
+        Some(at) if is_splice(&bytes[at..]) => Err(LexFault::LineSplice(at as u32)),
+        Some(at) => Err(LexFault::Trigraph(at as u32)),
+        None => tokens_of(alloc, bytes),
     }
 }
 
-/// The law that a source has one list of tokens at most.
-pub fn one_reading()
-    ensures { (bytes : Bytes) (ts us : List Lexeme) → IsTokens bytes ts → IsTokens bytes us → ts ≡ us }
+/// The law that a source has one outcome at most.
+pub fn one_outcome()
+    ensures { (bytes : Bytes) (r s : Outcome) → Lexes bytes r → Lexes bytes s → r ≡ s }
 {}
 
 #[cfg(test)]

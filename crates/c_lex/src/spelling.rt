@@ -3,8 +3,7 @@
 ghost use Rattle.std.specs.Prelude.{◌≡◌, ◌≢◌, map, MatchOption};
 ghost use Rattle.c_lex.specs.declared.token.Keyword.{Keyword as KeywordKind};
 ghost use Rattle.c_lex.specs.declared.token.Punct.{Punct as PunctKind};
-ghost use Rattle.c_lex.specs.Reading.{lookup};
-ghost use Rattle.c_lex.specs.Spellings.{keyword_spelling, punct_spelling};
+ghost use Rattle.c_lex.specs.Spellings.{keyword_spelling, punct_spelling, lookup};
 
 use crate::token::{Keyword, Punct};
 

@@ -1,27 +1,10 @@
--- The punctuators are tried from the longest down.
-use Rattle.std.proofs.Common.{arith}
-use Rattle.c_lex.proofs.Fronts.{punct_front, punct_stops, at_most_three}
+-- The longest punctuator, or a stray byte.
+use Rattle.c_lex.specs.Tokens.{Stands}
+use Rattle.c_lex.proofs.FrontParts.{mark_stands}
 use Rattle.c_lex.proofs.front.operator.Goals as goal
 
-pub returns-in-Some-clause-ok : goal.returns-in-Some-clause-ok
-returns-in-Some-clause-ok c =
-    punct_front c.args.text.now 3 c.in-Some.punct c.requires.no_word c.requires.no_number c.in-Some.ensures.some.0 c.in-Some.ensures.some.1 (λ q rest e. at_most_three q)
+pub returns-in-Some : goal.returns-in-Some
+returns-in-Some c = λ m begun. mark_stands m c.args.at c.args.text.now begun c.in-Some.punct c.in-Some.len c.in-Some.ensures
 
-pub returns-in-Some-punctuator_of-clause-ok : goal.returns-in-Some-punctuator_of-clause-ok
-returns-in-Some-punctuator_of-clause-ok c =
-    punct_front c.args.text.now 2 c.in-Some-punctuator_of.punct c.requires.no_word c.requires.no_number c.in-Some-punctuator_of.ensures.some.0 c.in-Some-punctuator_of.ensures.some.1
-    (λ q rest e. let no_three = c.in_default.ensures.none q rest e in let short = at_most_three q in omega arith)
-
-pub returns-in-Some-punctuator_of-2-clause-ok : goal.returns-in-Some-punctuator_of-2-clause-ok
-returns-in-Some-punctuator_of-2-clause-ok c =
-    punct_front c.args.text.now 1 c.in-Some-punctuator_of-2.punct c.requires.no_word c.requires.no_number c.in-Some-punctuator_of-2.ensures.some.0 c.in-Some-punctuator_of-2.ensures.some.1
-    (λ q rest e. let no_three = c.in_default.ensures.none q rest e in let no_two = c.in_default-punctuator_of.ensures.none q rest e in let short = at_most_three q in omega arith)
-
-pub returns-in-None-clause-err : goal.returns-in-None-clause-err
-returns-in-None-clause-err c =
-    punct_stops c.args.text.now c.requires.no_word c.requires.no_number
-    (λ q rest e.
-    let no_three = c.in_default.ensures.none q rest e in
-    let no_two = c.in_default-punctuator_of.ensures.none q rest e in
-    let no_one = c.in-None.ensures.none q rest e in
-    let short = at_most_three q in omega arith)
+pub returns-in-None : goal.returns-in-None
+returns-in-None c = λ _ m begun. Stands.stray c.in-None.ensures

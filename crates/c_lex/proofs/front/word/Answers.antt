@@ -1,15 +1,9 @@
--- The run at a letter is the longest piece, and a keyword or a name.
-use Rattle.std.proofs.Common.{◌∙◌}
-use Rattle.c_lex.proofs.Fronts.{word_front}
+-- The longest word at the front.
+use Rattle.c_lex.proofs.Longest.{word_front}
+use Rattle.c_lex.proofs.FrontParts.{word_stands}
 use Rattle.c_lex.proofs.front.word.Goals as goal
 
-pub returns-in-Some-clause-ok : goal.returns-in-Some-clause-ok
-returns-in-Some-clause-ok c =
+pub returns : goal.returns
+returns c = λ m at begun known.
     let front = word_front c.args.text.now c.run_len-len.result c.requires.some c.requires.letter c.run_len-len.ensures.value in
-    record { within = c.run_len-len.ensures.within; longest = front.0; token = c.in-Some.ensures }
-
-pub returns-in_ok-name-in-None-clause-ok : goal.returns-in_ok-name-in-None-clause-ok
-returns-in_ok-name-in-None-clause-ok c =
-    let front = word_front c.args.text.now c.run_len-len.result c.requires.some c.requires.letter c.run_len-len.ensures.value in
-    let word = c.new.ensures ∙ c.in_ok-name-in-None.ensures.items_if_clones_equal (λ x y same. same) in
-    record { within = c.run_len-len.ensures.within; longest = front.0; token = (word, front.1, c.in-None.ensures) }
+    word_stands m at c.args.text.now begun c.in_ok-kind.kind c.run_len-len.result c.run_len-len.ensures.within front.0 (c.in_ok-kind.ensures m known)

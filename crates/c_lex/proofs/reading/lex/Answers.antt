@@ -1,42 +1,41 @@
--- The tokens behind the first line, or of the whole text.
-use Rattle.std.proofs.Common.{length, drop}
+-- What is refused anywhere, or the outcome of the reading.
+use Rattle.std.proofs.Common.{◌≢◌, false, length, drop, Ok, Err, sym, ap, ◌∙◌}
+use Rattle.std.proofs.lemmas.List.{take_rest}
 use Rattle.std.proofs.lemmas.Result.{IfOk-weaker, IfErr-weaker}
-use Rattle.c_lex.specs.Reading.{StopsFrom, Causes}
-use Rattle.c_lex.specs.Tokens.{Tokens, IsTokens, Rise}
-use Rattle.c_lex.proofs.Sources.{begins_is, included_rise, plain_rise, included_causes, plain_causes}
+use Rattle.c_lex.specs.declared.fault.LexFault.TheVariants as fault
+use Rattle.c_lex.specs.Lexemes.{Rise}
+use Rattle.c_lex.specs.Places.{is_splice}
+use Rattle.c_lex.specs.Tokens.{first_macros, Cuts, Lexes, IsPlaced}
+use Rattle.c_lex.proofs.Sources.{other_is_trigraph, source_rise, answer_placed}
 use Rattle.c_lex.proofs.reading.lex.Goals as goal
 
-pub returns-then-starts_with-clause-ok : goal.returns-then-starts_with-clause-ok
-returns-then-starts_with-clause-ok c =
-    let line = (begins_is c.args.bytes.now c.starts_with.result c.starts_with.ensures.value).0 c.if-starts_with.true in
-    IfOk-weaker c.tokens_from.result (λ tokens. Tokens 19 (drop 19 c.args.bytes.now) tokens.items) (λ tokens. IsTokens c.args.bytes.now tokens.items)
-    (λ tokens d. IsTokens.included (drop 19 c.args.bytes.now) line d) c.tokens_from.ensures.ok
+pub returns-in-Some-clause-err : goal.returns-in-Some-clause-err
+returns-in-Some-clause-err c = λ _.
+    let left = take_rest c.args.bytes.now c.in-Some.at in
+    Lexes.splice c.in-Some.at c.in-Some.ensures (ap is_splice (sym left) ∙ sym c.is_splice.ensures ∙ c.if-is_splice.true)
 
-pub returns-then-starts_with-clause-rise : goal.returns-then-starts_with-clause-rise
-returns-then-starts_with-clause-rise c =
-    let line = (begins_is c.args.bytes.now c.starts_with.result c.starts_with.ensures.value).0 c.if-starts_with.true in
-    IfOk-weaker c.tokens_from.result (λ tokens. Tokens 19 (drop 19 c.args.bytes.now) tokens.items) (λ tokens. Rise 0 (length c.args.bytes.now) tokens.items)
-    (λ tokens d. included_rise c.args.bytes.now tokens.items line d) c.tokens_from.ensures.ok
+pub returns-in-Some-2-clause-err : goal.returns-in-Some-2-clause-err
+returns-in-Some-2-clause-err c = λ _.
+    let left = take_rest c.args.bytes.now c.in-Some.at in
+    let none = ap is_splice (sym left) ∙ sym c.is_splice.ensures ∙ c.if-is_splice.false in
+    Lexes.trigraph c.in-Some.at c.in-Some.ensures (other_is_trigraph (drop c.in-Some.at c.args.bytes.now) c.in-Some.ensures.holds none)
 
-pub returns-then-starts_with-clause-err : goal.returns-then-starts_with-clause-err
-returns-then-starts_with-clause-err c =
-    let line = (begins_is c.args.bytes.now c.starts_with.result c.starts_with.ensures.value).0 c.if-starts_with.true in
-    IfErr-weaker c.tokens_from.result (StopsFrom 19 (drop 19 c.args.bytes.now)) (Causes c.args.bytes.now)
-    (λ fault f. included_causes c.args.bytes.now fault line f) c.tokens_from.ensures.err
+pub returns-in-None-clause-ok : goal.returns-in-None-clause-ok
+returns-in-None-clause-ok c =
+    IfOk-weaker c.tokens_of.result (λ tokens. Cuts false first_macros 0 c.args.bytes.now (Ok tokens.items)) (λ tokens. Lexes c.args.bytes.now (Ok tokens.items))
+    (λ tokens d. Lexes.cut c.in-None.ensures d) c.tokens_of.ensures.ok
 
-pub returns-else-starts_with-clause-ok : goal.returns-else-starts_with-clause-ok
-returns-else-starts_with-clause-ok c =
-    IfOk-weaker c.tokens_from-else-starts_with.result (λ tokens. Tokens 0 c.args.bytes.now tokens.items) (λ tokens. IsTokens c.args.bytes.now tokens.items)
-    (λ tokens d. IsTokens.plain d) c.tokens_from-else-starts_with.ensures.ok
+pub returns-in-None-clause-rise : goal.returns-in-None-clause-rise
+returns-in-None-clause-rise c =
+    IfOk-weaker c.tokens_of.result (λ tokens. Cuts false first_macros 0 c.args.bytes.now (Ok tokens.items)) (λ tokens. Rise 0 (length c.args.bytes.now) tokens.items)
+    (λ tokens d. source_rise c.args.bytes.now tokens.items d) c.tokens_of.ensures.ok
 
-pub returns-else-starts_with-clause-rise : goal.returns-else-starts_with-clause-rise
-returns-else-starts_with-clause-rise c =
-    IfOk-weaker c.tokens_from-else-starts_with.result (λ tokens. Tokens 0 c.args.bytes.now tokens.items) (λ tokens. Rise 0 (length c.args.bytes.now) tokens.items)
-    (λ tokens d. plain_rise c.args.bytes.now tokens.items d) c.tokens_from-else-starts_with.ensures.ok
+pub returns-in-None-clause-err : goal.returns-in-None-clause-err
+returns-in-None-clause-err c =
+    IfErr-weaker c.tokens_of.result (λ f. f ≢ fault.NoMemory → Cuts false first_macros 0 c.args.bytes.now (Err f)) (λ f. f ≢ fault.NoMemory → Lexes c.args.bytes.now (Err f))
+    (λ f d n. Lexes.cut c.in-None.ensures (d n)) c.tokens_of.ensures.err
 
-pub returns-else-starts_with-clause-err : goal.returns-else-starts_with-clause-err
-returns-else-starts_with-clause-err c =
-    IfErr-weaker c.tokens_from-else-starts_with.result (StopsFrom 0 c.args.bytes.now) (Causes c.args.bytes.now)
-    (λ fault f. plain_causes c.args.bytes.now fault
-    (λ rest e. let is = (begins_is c.args.bytes.now c.starts_with.result c.starts_with.ensures.value).1 rest e in cc (c.if-starts_with.false)) f)
-    c.tokens_from-else-starts_with.ensures.err
+pub returns-in-None-clause-place : goal.returns-in-None-clause-place
+returns-in-None-clause-place c =
+    IfErr-weaker c.tokens_of.result (λ f. f ≢ fault.NoMemory → Cuts false first_macros 0 c.args.bytes.now (Err f)) (IsPlaced (length c.args.bytes.now))
+    (λ f d. answer_placed c.args.bytes.now f d) c.tokens_of.ensures.err

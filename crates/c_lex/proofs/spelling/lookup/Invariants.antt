@@ -1,6 +1,6 @@
 -- The answer lies in the rest of the table.
 use Rattle.std.proofs.Common.{◌≡◌, map, drop}
-use Rattle.c_lex.specs.Reading.{lookup}
+use Rattle.c_lex.specs.Spellings.{lookup}
 use Rattle.c_lex.proofs.spelling.lookup.Given as goal
 
 abbrev pub invariant-loop-entry : goal.invariant-loop-entry
