@@ -1,0 +1,11 @@
+pub mod Operators
+pub mod Grammar
+pub mod Programs
+pub mod Leads
+pub mod Descent
+pub mod ProgramDescent
+pub mod Judge
+pub mod Nesting
+pub mod Rooms
+pub mod BegunNesting
+pub mod BegunRooms

@@ -1,0 +1,30 @@
+//! Laws of the grammar.
+
+ghost use Rattle.std.specs.Prelude.{◌≡◌, ℕ, List};
+ghost use Rattle.c_tree.specs.Tree.{Outer};
+ghost use Rattle.c_grammar.specs.Grammar.{Tokens};
+ghost use Rattle.c_grammar.specs.Programs.{Derives};
+ghost use Rattle.c_grammar.specs.BegunNesting.{Passes};
+ghost use Rattle.c_grammar.specs.Judge.{Verdict, too_deep_at, Judged};
+
+/// Tokens are one program alone, at whatever nesting.
+pub fn one_program()
+    ensures one { (r s : ℕ) (a : Tokens) (p q : List Outer) → Derives r a p → Derives s a q → p ≡ q }
+{}
+
+/// The grammar admits a verdict on all tokens: they are a program that is derived; or there is a first token, or the end,
+/// with which nothing is a program; or a first with which a program nests deeper than the room.
+pub fn verdict()
+    ensures some { (r : ℕ) (a : Tokens) → (v : Verdict) × Judged r a v }
+{}
+
+/// And it admits one verdict alone.
+pub fn exact()
+    ensures one { (r : ℕ) (a : Tokens) (v w : Verdict) → Judged r a v → Judged r a w → v ≡ w }
+{}
+
+/// A token is nested too deep exactly where it is the first that a program goes on with only at a nesting above the room.
+pub fn too_deep()
+    ensures passes { (r : ℕ) (a b : Tokens) → Judged r a (too_deep_at b) → Passes r a b }
+    ensures refused { (r : ℕ) (a b : Tokens) → Passes r a b → Judged r a (too_deep_at b) }
+{}
