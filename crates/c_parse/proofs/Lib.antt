@@ -1,7 +1,5 @@
 pub mod Shapes
-pub mod Leads
-pub mod Sound
 pub mod Turns
-pub mod Complete
-pub mod Lift
 pub mod Steps
+pub mod Answered
+pub mod Placed

@@ -1,5 +1,5 @@
 -- The plain trees of what is built.
-use Rattle.std.proofs.Common.{ℕ, ◌≡◌, refl, ap, ◌∙◌, List, Vec, Global}
+use Rattle.std.proofs.Common.{◌≡◌, ℕ, refl, sym, ap, ◌∙◌, List, [], ◌∷◌, ◌++◌, map, Vec, Global}
 use Rattle.c_tree.specs.declared.place.Span.{Span}
 use Rattle.c_tree.specs.declared.expr.Expr.{Expr}
 use Rattle.c_tree.specs.declared.expr.ExprNode.{ExprNode}
@@ -7,19 +7,19 @@ use Rattle.c_tree.specs.declared.expr.ExprNode.TheVariants.{Const, Name, Index',
 use Rattle.c_tree.specs.declared.expr.Arg.{Arg}
 use Rattle.c_tree.specs.declared.expr.Arg.TheVariants.{Value', Format, Address'}
 use Rattle.c_tree.specs.declared.expr.Arg.TheBlock.{Row_of-Arg, more_of-Arg, end_of-Arg, items-the_row-Arg, items_hidden-the_row-Arg-0, hidden-the_row-Arg-0}
-use Rattle.c_tree.specs.declared.stmt.StmtNode.{StmtNode}
-use Rattle.c_tree.specs.declared.stmt.StmtNode.TheVariants.{Empty, Act, Block', If', While', Do', For', Return, Break, Continue, Block}
-use Rattle.c_tree.specs.declared.stmt.Stmt.{Stmt}
+use Rattle.c_tree.specs.declared.stmt.StmtNode.TheVariants.{Block}
 use Rattle.c_tree.specs.declared.stmt.Item.{Item}
 use Rattle.c_tree.specs.declared.stmt.Item.TheVariants.{Vars, Stmt'}
-use Rattle.c_tree.specs.declared.stmt.Item.TheBlock.{Row_of-Item, more_of-Item, end_of-Item, None', Some', items-the_row-Item, items_hidden-the_row-Item-0, hidden-the_row-Item-0}
-use Rattle.c_tree.specs.Tree.{call, block}
-use Rattle.c_tree.specs.Views.{tree, node_tree, args_tree, with_arg, args_of, code, node_code, items_code, with_item, body_of}
+use Rattle.c_tree.specs.declared.stmt.Item.TheBlock.{Row_of-Item, more_of-Item, end_of-Item, items-the_row-Item, items_hidden-the_row-Item-0, hidden-the_row-Item-0}
+use Rattle.c_tree.specs.Tree.{Body, call, choice, block, done}
+use Rattle.c_tree.specs.Views.{tree, node_tree, args_tree, with_arg, args_of, node_code, items_code, with_item, body_of}
 use Rattle.c_tree.specs.Locations.{span_of}
-use Rattle.c_parse.specs.Grammar.{code_span}
+use Rattle.c_grammar.specs.Grammar.{over, chosen, args}
+use Rattle.c_grammar.specs.ProgramDescent.{append}
+use Rattle.c_parse.specs.Gives.{given}
 
 -- the span of a node is that of its tree
-pub span_of-node : (n : ExprNode) (s : Span) → span_of (node_tree n s) ≡ s
+span_of-node : (n : ExprNode) (s : Span) → span_of (node_tree n s) ≡ s
 span_of-node (Const n word) s = refl
 span_of-node (Name word slot) s = refl
 span_of-node (Index' word slot _ e es) s = refl
@@ -32,8 +32,22 @@ span_of-node (Assign' op _ l ls _ r rs) s = refl
 span_of-node (Bump' before up _ e es) s = refl
 span_of-node (Comma' _ l ls _ r rs) s = refl
 
+-- the span of an expression is that of its tree
 pub span_of-tree : (e : Expr) → span_of (tree e) ≡ e.span
 span_of-tree e = span_of-node e.node e.span
+
+-- a conditional expression of these parts
+pub choice-over : (a b c t u v : Expr) (s : Span) → a ≡ t → b ≡ u → c ≡ v → s ≡ over t.span v.span → choice (tree a) (tree b) (tree c) s ≡ chosen (tree t) (tree u) (tree v)
+choice-over a b c t u v s p q w e =
+    ap (λ x. choice (tree x) (tree b) (tree c) s) p ∙ ap (λ x. choice (tree t) (tree x) (tree c) s) q ∙ ap (λ x. choice (tree t) (tree u) (tree x) s) w
+    ∙ ap (choice (tree t) (tree u) (tree v)) (e ∙ ap (λ o. over o v.span) (sym (span_of-tree t)) ∙ ap (over (span_of (tree t))) (sym (span_of-tree v)))
+
+-- the arguments of a call, one by one
+args-given : (xs : List Arg) → args_of xs ≡ args (map given xs)
+args-given [] = refl
+args-given (Value' e s ∷ xs) = ap (with_arg (Value' e s)) (args-given xs)
+args-given (Format w s ∷ xs) = ap (with_arg (Format w s)) (args-given xs)
+args-given (Address' e s ∷ xs) = ap (with_arg (Address' e s)) (args-given xs)
 
 row_args : (n : _) (row : Row_of-Arg n) → args_tree row ≡ args_of (items-the_row-Arg n row)
 row_args n end_of-Arg = refl
@@ -42,25 +56,8 @@ row_args n (more_of-Arg (Format f s) rest) = ap (with_arg (Format f s)) (row_arg
 row_args n (more_of-Arg (Address' e s) rest) = ap (with_arg (Address' e s)) (row_args _ rest)
 
 -- the arguments of a call, as a list
-pub node-Call : (word : List ℕ) (args : Vec Arg Global) (s : Span) → node_tree (Call word args) s ≡ call word (args_of args.items) s
-node-Call word args s = ap (λ a. call word a s) (row_args _ (hidden-the_row-Arg-0 args) ∙ ap args_of (items_hidden-the_row-Arg-0 args))
-
-code_span-node : (n : StmtNode) (s : Span) → code_span (node_code n s) ≡ s
-code_span-node Empty s = refl
-code_span-node (Act e) s = refl
-code_span-node (Block' _ items) s = refl
-code_span-node (If' test _ y ys None') s = refl
-code_span-node (If' test _ y ys (Some' _ n ns)) s = refl
-code_span-node (While' test _ b bs) s = refl
-code_span-node (Do' _ b bs test) s = refl
-code_span-node (For' init test step _ b bs) s = refl
-code_span-node (Return e) s = refl
-code_span-node Break s = refl
-code_span-node Continue s = refl
-
--- the span of a statement is that of its tree
-pub code_span-code : (c : Stmt) → code_span (code c) ≡ c.span
-code_span-code c = code_span-node c.node c.span
+pub node-Call : (word : List ℕ) (xs : Vec Arg Global) (s : Span) → node_tree (Call word xs) s ≡ call word (args (map given xs.items)) s
+node-Call word xs s = ap (λ a. call word a s) (row_args _ (hidden-the_row-Arg-0 xs) ∙ ap args_of (items_hidden-the_row-Arg-0 xs) ∙ args-given xs.items)
 
 row_items : (n : _) (row : Row_of-Item n) → items_code row ≡ body_of (items-the_row-Item n row)
 row_items n end_of-Item = refl
@@ -70,3 +67,16 @@ row_items n (more_of-Item (Vars ty ds) rest) = ap (with_item (Vars ty ds)) (row_
 -- the items of a block, as a list
 pub node-Block : (items : Vec Item Global) (s : Span) → node_code (Block items) s ≡ block (body_of items.items) s
 node-Block items s = ap (λ b. block b s) (row_items _ (hidden-the_row-Item-0 items) ∙ ap body_of (items_hidden-the_row-Item-0 items))
+
+-- one item more
+pub body_of-push : (xs : List Item) (i : Item) → body_of (xs ++ i ∷ []) ≡ append (body_of xs) (with_item i done)
+body_of-push [] i = refl
+body_of-push (Stmt' n s ∷ xs) i = ap (with_item (Stmt' n s)) (body_of-push xs i)
+body_of-push (Vars ty ds ∷ xs) i = ap (with_item (Vars ty ds)) (body_of-push xs i)
+
+-- one more of what is seen as something else
+pub map-push : {X A : Type 0} (f : X → A) (xs ys : List X) (x : X) → ys ≡ xs ++ x ∷ [] → map f ys ≡ map f xs ++ f x ∷ []
+map-push f xs ys x e = ap (map f) e ∙ each xs where
+  each : (xs : List _) → map f (xs ++ x ∷ []) ≡ map f xs ++ f x ∷ []
+  each [] = refl
+  each (y ∷ xs) = ap (λ ys. f y ∷ ys) (each xs)

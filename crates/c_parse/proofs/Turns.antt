@@ -1,177 +1,261 @@
 -- Parts one after another: a turn of the descent is a turn of the loop that reads them.
-use Rattle.std.proofs.Common.{◌≡◌, ℕ, zero, suc, ◌<◌, ◌≤◌, Bool, true, false, List, [], ◌∷◌, ◌++◌, length, Err, Vec, Global, refl, sym, ap, ◌∙◌, subst, arith}
+use Rattle.std.proofs.Common.{◌≡◌, ℕ, zero, suc, ◌+◌, ◌-◌, ◌<◌, ◌≤◌, Bool, true, false, Option, Some, None, List, [], ◌∷◌, ◌++◌, length, refl, sym, ap, ◌∙◌, append_assoc, arith}
+use Rattle.c_tree.specs.declared.place.Span.{Span}
+use Rattle.c_tree.specs.declared.expr.BinOp.{BinOp}
 use Rattle.c_tree.specs.Tree as tree
-use Rattle.c_tree.specs.Tree.{Body, Code}
-use Rattle.c_tree.specs.declared.stmt.Item.{Item}
-use Rattle.c_tree.specs.declared.stmt.Item.TheVariants.{Vars, Stmt', Stmt}
-use Rattle.c_tree.specs.declared.stmt.Stmt as stmt
-use Rattle.c_tree.specs.Views.{with_item, body_of, code}
-use Rattle.c_parse.specs.declared.fault.ParseFault.{ParseFault}
-use Rattle.c_parse.specs.declared.fault.ParseFault.TheVariants.{Unsupported, NoMemory}
-use Rattle.c_parse.specs.Gives.{Gives}
-use Rattle.c_parse.specs.declared.lead.Lead.{Lead}
-use Rattle.c_parse.specs.Grammar.{Tokens, Part, Reads, Statement, Block, Statements}
-use Rattle.c_parse.specs.Descent.{Reading, found, nothing, and_then, front, append, before, many_by, many, all, is_close_brace, is_no_int, one, statements, does, block, braced, declaration, declarations}
-use Rattle.c_parse.proofs.Sound.{Says, Stated, does_ok, OneDeclared, declared_one, declaration_ok}
+use Rattle.c_tree.specs.Tree.{Tree, Body, Code, Outer}
+use Rattle.c_grammar.specs.declared.lead.Lead.{Lead}
+use Rattle.c_grammar.specs.declared.part.Part.{Part}
+use Rattle.c_grammar.specs.declared.part.Part.TheVariants.{Assignment, Binary}
+use Rattle.c_grammar.specs.Grammar.{Tokens, joined, followed}
+use Rattle.c_grammar.specs.Leads.{front, operator_at, is_comma, is_close_brace, is_end}
+use Rattle.c_grammar.specs.Descent.{Reading, found, unexpected, too_deep, Reader, and_then, taken, opened, Read, operated, operators, comma_by, commas, ahead, behind_comma, listed_by, listed, all_listed}
+use Rattle.c_grammar.specs.ProgramDescent.{append, before, item, items_by, items_within, items, external, externals_by, externals, program}
+use Rattle.c_parse.specs.declared.fault.Stop.{Stop}
+use Rattle.c_parse.specs.declared.fault.Stop.TheVariants.{Unexpected, TooDeep, NoMemory}
+use Rattle.c_parse.specs.Gives.{stopped}
 
-pub append-done : (x : Body) → append x tree.done ≡ x
+-- ---- a recursion on a count of turns, beside a loop that counts up
+
+pub one_more : {X : Type 0} {x : X} (f : ℕ → X) (n at : ℕ) → at < n → x ≡ f (n - at) → x ≡ f (suc (n - (at + 1)))
+one_more f n at below e = let turn : n - at ≡ suc (n - (at + 1)) = omega arith in e ∙ ap f turn
+
+pub no_more : {X : Type 0} {x : X} (f : ℕ → X) (n at : ℕ) → n ≤ at → x ≡ f (n - at) → x ≡ f 0
+no_more f n at done e = let none : n - at ≡ 0 = omega arith in e ∙ ap f none
+
+pub deeper : {X : Type 0} (f : ℕ → X) (n : ℕ) → 0 < n → f n ≡ f (suc (n - 1))
+deeper f n some = let e : n ≡ suc (n - 1) = omega arith in ap f e
+
+-- where reading has stopped nothing more is read
+pub stops : {A B : Type 0} (e : Stop) (b : Tokens) (f : A → Reader B) → and_then (stopped e b) f ≡ stopped e b
+stops Unexpected b f = refl
+stops TooDeep b f = refl
+stops NoMemory b f = refl
+
+-- ---- operators
+
+module _ (self : Part → Reader Read) where
+  -- an operator and what comes after it, in a turn
+  abbrev operating : ℕ → ℕ → Read → ℕ → Tokens → Option BinOp → Reading Read
+  operating n j t m b f = operated self j (operators self n j) f t m b
+
+  -- what comes after an operator
+  abbrev after_operator : ℕ → ℕ → BinOp → Read → Reading Span → Reading Read
+  after_operator n j f t o = and_then o (λ s v c. and_then (self (Binary j) v c) (λ u q d. operators self n j (joined f t.0 u.0, false) q d))
+
+  -- what comes after its operand
+  abbrev after_operand : ℕ → ℕ → BinOp → Read → Reading Read → Reading Read
+  after_operand n j f t o = and_then o (λ u q d. operators self n j (joined f t.0 u.0, false) q d)
+
+  -- no operator comes next
+  pub operator_absent : (whole : Reading Read) (n j : ℕ) (t : Read) (m : ℕ) (b : Tokens) → whole ≡ operators self (suc n) j t m b → operator_at (suc j) (front b) ≡ None → whole ≡ found t m b
+  operator_absent whole n j t m b w h = w ∙ ap (operating n j t m b) h
+
+  -- an operator that isn't opened
+  pub operator_fails : (whole : Reading Read) (n j : ℕ) (t : Read) (m : ℕ) (b : Tokens) (f : BinOp) (e : Stop) (c : Tokens) → whole ≡ operators self (suc n) j t m b → operator_at (suc j) (front b) ≡ Some f
+      → opened m b ≡ stopped e c → whole ≡ stopped e c
+  operator_fails whole n j t m b f e c w h k =
+      w ∙ ap (operating n j t m b) h ∙ ap (after_operator n j f t) k ∙ stops e c (λ s v c. and_then (self (Binary j) v c) (λ u q d. operators self n j (joined f t.0 u.0, false) q d))
+
+  -- an operand that isn't read
+  pub operand_fails : (whole : Reading Read) (n j : ℕ) (t : Read) (m : ℕ) (b : Tokens) (f : BinOp) (s : Span) (p : ℕ) (c : Tokens) (e : Stop) (d : Tokens) → whole ≡ operators self (suc n) j t m b
+      → operator_at (suc j) (front b) ≡ Some f → opened m b ≡ found s p c → self (Binary j) p c ≡ stopped e d → whole ≡ stopped e d
+  operand_fails whole n j t m b f s p c e d w h k v =
+      w ∙ ap (operating n j t m b) h ∙ ap (after_operator n j f t) k ∙ ap (after_operand n j f t) v ∙ stops e d (λ u q d. operators self n j (joined f t.0 u.0, false) q d)
+
+  -- an operator and its operand
+  pub operator_goes : (whole : Reading Read) (n j : ℕ) (t : Read) (m : ℕ) (b : Tokens) (f : BinOp) (s : Span) (p : ℕ) (c : Tokens) (u : Read) (q : ℕ) (d : Tokens) (z : Tree) → whole ≡ operators self (suc n) j t m b
+      → operator_at (suc j) (front b) ≡ Some f → opened m b ≡ found s p c → self (Binary j) p c ≡ found u q d → z ≡ joined f t.0 u.0 → whole ≡ operators self n j (z, false) q d
+  operator_goes whole n j t m b f s p c u q d z w h k v y =
+      w ∙ ap (operating n j t m b) h ∙ ap (after_operator n j f t) k ∙ ap (after_operand n j f t) v ∙ ap (λ z. operators self n j (z, false) q d) (sym y)
+
+  -- a comma and what comes after it, in a turn
+  abbrev following : ℕ → Read → ℕ → Tokens → Bool → Reading Read
+  following n t m b z = comma_by self z (commas self n) t m b
+
+  -- what comes after a comma
+  abbrev after_comma : ℕ → Read → Reading Span → Reading Read
+  after_comma n t o = and_then o (λ s v c. and_then (self Assignment v c) (λ u q d. commas self n (followed t.0 u.0, false) q d))
+
+  -- what comes after its operand
+  abbrev after_followed : ℕ → Read → Reading Read → Reading Read
+  after_followed n t o = and_then o (λ u q d. commas self n (followed t.0 u.0, false) q d)
+
+  -- no comma comes next
+  pub comma_absent : (whole : Reading Read) (n : ℕ) (t : Read) (m : ℕ) (b : Tokens) → whole ≡ commas self (suc n) t m b → is_comma (front b) ≡ false → whole ≡ found t m b
+  comma_absent whole n t m b w h = w ∙ ap (following n t m b) h
+
+  -- a comma that isn't opened
+  pub comma_unopened : (whole : Reading Read) (n : ℕ) (t : Read) (m : ℕ) (b : Tokens) (e : Stop) (c : Tokens) → whole ≡ commas self (suc n) t m b → is_comma (front b) ≡ true → opened m b ≡ stopped e c → whole ≡ stopped e c
+  comma_unopened whole n t m b e c w h k =
+      w ∙ ap (following n t m b) h ∙ ap (after_comma n t) k ∙ stops e c (λ s v c. and_then (self Assignment v c) (λ u q d. commas self n (followed t.0 u.0, false) q d))
+
+  -- an operand that isn't read
+  pub followed_fails : (whole : Reading Read) (n : ℕ) (t : Read) (m : ℕ) (b : Tokens) (s : Span) (p : ℕ) (c : Tokens) (e : Stop) (d : Tokens) → whole ≡ commas self (suc n) t m b → is_comma (front b) ≡ true
+      → opened m b ≡ found s p c → self Assignment p c ≡ stopped e d → whole ≡ stopped e d
+  followed_fails whole n t m b s p c e d w h k v =
+      w ∙ ap (following n t m b) h ∙ ap (after_comma n t) k ∙ ap (after_followed n t) v ∙ stops e d (λ u q d. commas self n (followed t.0 u.0, false) q d)
+
+  -- a comma and its operand
+  pub followed_goes : (whole : Reading Read) (n : ℕ) (t : Read) (m : ℕ) (b : Tokens) (s : Span) (p : ℕ) (c : Tokens) (u : Read) (q : ℕ) (d : Tokens) (z : Tree) → whole ≡ commas self (suc n) t m b
+      → is_comma (front b) ≡ true → opened m b ≡ found s p c → self Assignment p c ≡ found u q d → z ≡ followed t.0 u.0 → whole ≡ commas self n (z, false) q d
+  followed_goes whole n t m b s p c u q d z w h k v y = w ∙ ap (following n t m b) h ∙ ap (after_comma n t) k ∙ ap (after_followed n t) v ∙ ap (λ z. commas self n (z, false) q d) (sym y)
+
+-- ---- lists with commas
+
+ahead-none : {A : Type 0} (o : Reading (List A)) → ahead [] o ≡ o
+ahead-none (found xs m b) = refl
+ahead-none (unexpected b) = refl
+ahead-none (too_deep b) = refl
+
+ahead-ahead : {A : Type 0} (xs ys : List A) (o : Reading (List A)) → ahead xs (ahead ys o) ≡ ahead (xs ++ ys) o
+ahead-ahead xs ys (found zs m b) = ap (λ z. found z m b) (sym (append_assoc xs ys zs))
+ahead-ahead xs ys (unexpected b) = refl
+ahead-ahead xs ys (too_deep b) = refl
+
+module _ {A : Type 0} (ends : Lead → Bool) (part : Tokens → Reading A) where
+  -- what comes after a part, in a turn
+  abbrev after : List A → ℕ → Reading A → Reading (List A)
+  after xs n o = ahead xs (and_then o (λ x m b. listed_by ends part (is_comma (front b)) (listed ends part n) x m b))
+
+  -- behind a part and a comma
+  abbrev behind : List A → ℕ → A → Reading Span → Reading (List A)
+  behind xs n x o = ahead xs (and_then o (λ s m c. behind_comma ends part (ends (front c)) (listed ends part n) x m c))
+
+  -- before the first part
+  pub list_begins : (xs : List A) (n r : ℕ) (a : Tokens) → xs ≡ [] → n ≡ suc (length a) → all_listed ends part r a ≡ ahead xs (listed ends part n r a)
+  list_begins xs n r a p q = sym (ahead-none (all_listed ends part r a)) ∙ ap (λ n. ahead [] (listed ends part n r a)) (sym q) ∙ ap (λ xs. ahead xs (listed ends part n r a)) (sym p)
+
+  -- the part isn't read
+  pub part_fails : (whole : Reading (List A)) (xs : List A) (n r : ℕ) (a : Tokens) (e : Stop) (b : Tokens) → whole ≡ ahead xs (listed ends part (suc n) r a) → part a ≡ stopped e b → whole ≡ stopped e b
+  unfolding listed
+  part_fails whole xs n r a e b w h =
+      w ∙ ap (after xs n) h ∙ ap (ahead xs) (stops e b (λ x m b. listed_by ends part (is_comma (front b)) (listed ends part n) x m b)) ∙ stops e b (λ ys m b. found (xs ++ ys) m b)
+
+  -- the part is the last
+  pub part_ends : (whole : Reading (List A)) (xs ys : List A) (n r : ℕ) (a : Tokens) (x : A) (m : ℕ) (b : Tokens) → whole ≡ ahead xs (listed ends part (suc n) r a) → part a ≡ found x m b
+      → is_comma (front b) ≡ false → ys ≡ xs ++ x ∷ [] → whole ≡ found ys m b
+  unfolding listed
+  part_ends whole xs ys n r a x m b w h k p = w ∙ ap (after xs n) h ∙ ap (λ z. ahead xs (listed_by ends part z (listed ends part n) x m b)) k ∙ ap (λ z. found z m b) (sym p)
+
+  part_comma : (whole : Reading (List A)) (xs : List A) (n r : ℕ) (a : Tokens) (x : A) (m : ℕ) (b : Tokens) → whole ≡ ahead xs (listed ends part (suc n) r a) → part a ≡ found x m b → is_comma (front b) ≡ true
+      → whole ≡ behind xs n x (taken m b)
+  unfolding listed
+  part_comma whole xs n r a x m b w h k = w ∙ ap (after xs n) h ∙ ap (λ z. ahead xs (listed_by ends part z (listed ends part n) x m b)) k
+
+  -- the comma isn't taken
+  pub comma_fails : (whole : Reading (List A)) (xs : List A) (n r : ℕ) (a : Tokens) (x : A) (m : ℕ) (b : Tokens) (e : Stop) (c : Tokens) → whole ≡ ahead xs (listed ends part (suc n) r a) → part a ≡ found x m b
+      → is_comma (front b) ≡ true → taken m b ≡ stopped e c → whole ≡ stopped e c
+  comma_fails whole xs n r a x m b e c w h k t =
+      part_comma whole xs n r a x m b w h k ∙ ap (behind xs n x) t ∙ ap (ahead xs) (stops e c (λ s m c. behind_comma ends part (ends (front c)) (listed ends part n) x m c))
+      ∙ stops e c (λ ys m b. found (xs ++ ys) m b)
+
+  -- behind the comma the list ends
+  pub comma_ends : (whole : Reading (List A)) (xs ys : List A) (n r : ℕ) (a : Tokens) (x : A) (m : ℕ) (b : Tokens) (s : Span) (q : ℕ) (c : Tokens) → whole ≡ ahead xs (listed ends part (suc n) r a) → part a ≡ found x m b
+      → is_comma (front b) ≡ true → taken m b ≡ found s q c → ends (front c) ≡ true → ys ≡ xs ++ x ∷ [] → whole ≡ found ys q c
+  comma_ends whole xs ys n r a x m b s q c w h k t d p =
+      part_comma whole xs n r a x m b w h k ∙ ap (behind xs n x) t ∙ ap (λ z. ahead xs (behind_comma ends part z (listed ends part n) x q c)) d ∙ ap (λ z. found z q c) (sym p)
+
+  -- behind the comma the list goes on
+  pub comma_goes : (whole : Reading (List A)) (xs ys : List A) (n r : ℕ) (a : Tokens) (x : A) (m : ℕ) (b : Tokens) (s : Span) (q : ℕ) (c : Tokens) → whole ≡ ahead xs (listed ends part (suc n) r a) → part a ≡ found x m b
+      → is_comma (front b) ≡ true → taken m b ≡ found s q c → ends (front c) ≡ false → ys ≡ xs ++ x ∷ [] → whole ≡ ahead ys (listed ends part n q c)
+  comma_goes whole xs ys n r a x m b s q c w h k t d p =
+      part_comma whole xs n r a x m b w h k ∙ ap (behind xs n x) t ∙ ap (λ z. ahead xs (behind_comma ends part z (listed ends part n) x q c)) d
+      ∙ ahead-ahead xs (x ∷ []) (listed ends part n q c) ∙ ap (λ z. ahead z (listed ends part n q c)) (sym p)
+
+  -- no turn is left
+  pub list_ends : (whole : Reading (List A)) (xs : List A) (r : ℕ) (a : Tokens) → whole ≡ ahead xs (listed ends part 0 r a) → whole ≡ unexpected a
+  unfolding listed
+  list_ends whole xs r a w = w
+
+-- ---- the items of a block
+
+append-done : (x : Body) → append x tree.done ≡ x
 append-done tree.done = refl
 append-done (tree.next c x) = ap (tree.next c) (append-done x)
 append-done (tree.vars ty vs x) = ap (tree.vars ty vs) (append-done x)
 
-pub append_assoc : (x y z : Body) → append (append x y) z ≡ append x (append y z)
-append_assoc tree.done y z = refl
-append_assoc (tree.next c x) y z = ap (tree.next c) (append_assoc x y z)
-append_assoc (tree.vars ty vs x) y z = ap (tree.vars ty vs) (append_assoc x y z)
+append-append : (x y z : Body) → append (append x y) z ≡ append x (append y z)
+append-append tree.done y z = refl
+append-append (tree.next c x) y z = ap (tree.next c) (append-append x y z)
+append-append (tree.vars ty vs x) y z = ap (tree.vars ty vs) (append-append x y z)
 
-pub before-before : (x y : Body) (o : Reading Body) → before x (before y o) ≡ before (append x y) o
-before-before x y (found z m b) = ap (λ z. found z m b) (sym (append_assoc x y z))
-before-before x y nothing = refl
+before-before : (x y : Body) (o : Reading Body) → before x (before y o) ≡ before (append x y) o
+before-before x y (found z m b) = ap (λ z. found z m b) (sym (append-append x y z))
+before-before x y (unexpected b) = refl
+before-before x y (too_deep b) = refl
 
-pub before-done : (o : Reading Body) → before tree.done o ≡ o
+before-done : (o : Reading Body) → before tree.done o ≡ o
 before-done (found z m b) = refl
-before-done nothing = refl
+before-done (unexpected b) = refl
+before-done (too_deep b) = refl
 
--- one more item
-pub body_of-push : (xs : List Item) (i : Item) → body_of (xs ++ i ∷ []) ≡ append (body_of xs) (with_item i tree.done)
-body_of-push [] i = refl
-body_of-push (Stmt' n s ∷ xs) i = ap (with_item (Stmt' n s)) (body_of-push xs i)
-body_of-push (Vars ty ds ∷ xs) i = ap (with_item (Vars ty ds)) (body_of-push xs i)
+module _ (self : Tokens → Reading Code) where
+  -- a turn, by whether the block ends
+  abbrev turn : Body → ℕ → ℕ → Tokens → Bool → Reading Body
+  turn x n r a z = before x (items_by self z (items_within self n) r a)
 
-reads_shorter : {N : Part} {r m : ℕ} {a b : Tokens} {t : _} → Reads N r a m b t → length b < length a
-reads_shorter (Reads.name h) = omega arith
-reads_shorter Reads.number = omega arith
-reads_shorter Reads.getchar = omega arith
-reads_shorter (Reads.term d) = reads_shorter d
-reads_shorter (Reads.sum e d x) = let p = reads_shorter d in let q = reads_shorter x in omega arith
-reads_shorter (Reads.test e d x) = let p = reads_shorter d in let q = reads_shorter x in omega arith
+  -- what comes after an item
+  abbrev after_item : Body → ℕ → ℕ → Reading Body → Reading Body
+  after_item x n r o = before x (and_then o (λ y m b. before y (items_within self n r b)))
 
-mutual
-  pub statement_shorter : {r : ℕ} {a b : Tokens} {c : Code} → Statement r a b c → length b < length a
-  statement_shorter (Statement.assign h d) = let p = reads_shorter d in omega arith
-  statement_shorter (Statement.putchar d) = let p = reads_shorter d in omega arith
-  statement_shorter (Statement.give d) = let p = reads_shorter d in omega arith
-  statement_shorter (Statement.if_then d y) = let p = reads_shorter d in let q = block_shorter y in omega arith
-  statement_shorter (Statement.if_else d y z) = let p = reads_shorter d in let q = block_shorter y in let v = block_shorter z in omega arith
-  statement_shorter (Statement.while d y) = let p = reads_shorter d in let q = block_shorter y in omega arith
+  -- before the first item
+  pub items_begin : (x : Body) (n r : ℕ) (a : Tokens) → x ≡ tree.done → n ≡ suc (length a) → items self r a ≡ before x (items_within self n r a)
+  items_begin x n r a p q = sym (before-done (items self r a)) ∙ ap (λ n. before tree.done (items_within self n r a)) (sym q) ∙ ap (λ x. before x (items_within self n r a)) (sym p)
 
-  block_shorter : {r : ℕ} {a b : Tokens} {c : Code} → Block r a b c → length b < length a
-  block_shorter (Block.braces d) = let p = statements_shorter d in omega arith
+  -- the block ends
+  pub items_end : (whole : Reading Body) (x : Body) (n r : ℕ) (a : Tokens) → whole ≡ before x (items_within self (suc n) r a) → is_close_brace (front a) ≡ true → whole ≡ found x r a
+  unfolding items_within
+  items_end whole x n r a w h = w ∙ ap (turn x n r a) h ∙ ap (λ y. found y r a) (append-done x)
 
-  statements_shorter : {r : ℕ} {a b : Tokens} {x : Body} → Statements r a b x → length b ≤ length a
-  statements_shorter Statements.none = omega arith
-  statements_shorter (Statements.more d e) = let p = statement_shorter d in let q = statements_shorter e in omega arith
+  -- the item isn't read
+  pub item_fails : (whole : Reading Body) (x : Body) (n r : ℕ) (a : Tokens) (e : Stop) (b : Tokens) → whole ≡ before x (items_within self (suc n) r a) → is_close_brace (front a) ≡ false → item self r a ≡ stopped e b
+      → whole ≡ stopped e b
+  unfolding items_within
+  item_fails whole x n r a e b w h k =
+      w ∙ ap (turn x n r a) h ∙ ap (after_item x n r) k ∙ ap (before x) (stops e b (λ y m b. before y (items_within self n r b))) ∙ stops e b (λ y m b. found (append x y) m b)
 
--- what a statement leaves
-pub does_leaves : (r : ℕ) (a : Tokens) (c : Code) (m : ℕ) (b : Tokens) → does r a ≡ found c m b → (m ≡ r) × (length b < length a)
-does_leaves r a c m b e = let h = subst (Says (Stated r a)) e (does_ok r a) in (h.1, statement_shorter h.0)
+  -- an item more
+  pub item_goes : (whole : Reading Body) (x z : Body) (n r : ℕ) (a : Tokens) (y : Body) (m : ℕ) (b : Tokens) → whole ≡ before x (items_within self (suc n) r a) → is_close_brace (front a) ≡ false
+      → item self r a ≡ found y m b → z ≡ append x y → whole ≡ before z (items_within self n r b)
+  unfolding items_within
+  item_goes whole x z n r a y m b w h k p = w ∙ ap (turn x n r a) h ∙ ap (after_item x n r) k ∙ before-before x y (items_within self n r b) ∙ ap (λ z. before z (items_within self n r b)) (sym p)
 
--- each part is shorter than what it is read from
-abbrev pub Shortens : (Tokens → Reading Body) → Type 0
-Shortens self = (a : Tokens) (x : Body) (m : ℕ) (b : Tokens) → self a ≡ found x m b → length b < length a
+  -- no turn is left
+  pub block_ends : (whole : Reading Body) (x : Body) (r : ℕ) (a : Tokens) → whole ≡ before x (items_within self 0 r a) → whole ≡ unexpected a
+  unfolding items_within
+  block_ends whole x r a w = w
 
-module _ (stops : Lead → Bool) (self : Tokens → Reading Body) (H : Shortens self) where
-  same_by : (n k : ℕ) (r : ℕ) (a : Tokens) (o : Reading Body) → self a ≡ o → length a ≤ n → length a ≤ k
-      → ((b : Tokens) → length b < n → length b < k → many stops self n r b ≡ many stops self k r b)
-      → and_then o (λ x m b. before x (many stops self n r b)) ≡ and_then o (λ x m b. before x (many stops self k r b))
-  same_by n k r a (found x m b) e ln lk K = let lt = H a x m b e in ap (before x) (K b (omega arith) (omega arith))
-  same_by n k r a nothing e ln lk K = refl
+-- ---- what stands at file scope
 
-  same_turn : (x : Bool) (n k : ℕ) (r : ℕ) (a : Tokens) → length a ≤ n → length a ≤ k
-      → ((b : Tokens) → length b < n → length b < k → many stops self n r b ≡ many stops self k r b)
-      → many_by stops self x (many stops self n) r a ≡ many_by stops self x (many stops self k) r a
-  same_turn true n k r a ln lk K = refl
-  same_turn false n k r a ln lk K = same_by n k r a (self a) refl ln lk K
+-- what comes after one of them
+abbrev after_external : List Outer → ℕ → Reading Outer → Reading (List Outer)
+after_external xs n o = ahead xs (and_then o (λ x m b. externals_by (is_end (front b)) (externals n) x m b))
 
-  -- a bound that is large enough is as good as any
-  many_same : (n k : ℕ) (r : ℕ) (a : Tokens) → length a < n → length a < k → many stops self n r a ≡ many stops self k r a
-  unfolding many
-  many_same zero k r a ln lk = absurd (omega arith)
-  many_same (suc n) zero r a ln lk = absurd (omega arith)
-  many_same (suc n) (suc k) r a ln lk = same_turn (stops (front a)) n k r a (omega arith) (omega arith) (λ b l l2. many_same n k r b l l2)
+-- before the first of them
+pub externals_begin : (xs : List Outer) (n r : ℕ) (a : Tokens) → xs ≡ [] → n ≡ suc (length a) → program r a ≡ ahead xs (externals n r a)
+externals_begin xs n r a p q = sym (ahead-none (program r a)) ∙ ap (λ n. ahead [] (externals n r a)) (sym q) ∙ ap (λ xs. ahead xs (externals n r a)) (sym p)
 
-  pub all_turn : (r : ℕ) (a : Tokens) (x : Body) (m : ℕ) (b : Tokens) → stops (front a) ≡ false → self a ≡ found x m b → all stops self r a ≡ before x (all stops self r b)
-  unfolding many
-  all_turn r a x m b e h =
-      let lt = H a x m b h in
-      ap (λ z. many_by stops self z (many stops self (length a)) r a) e ∙ ap (λ o. and_then o (λ x m b. before x (many stops self (length a) r b))) h
-      ∙ ap (before x) (many_same (length a) (suc (length b)) r b lt (omega arith))
+-- it isn't read
+pub external_fails : (whole : Reading (List Outer)) (xs : List Outer) (n r : ℕ) (a : Tokens) (e : Stop) (b : Tokens) → whole ≡ ahead xs (externals (suc n) r a) → external r a ≡ stopped e b → whole ≡ stopped e b
+unfolding externals
+external_fails whole xs n r a e b w h =
+    w ∙ ap (after_external xs n) h ∙ ap (ahead xs) (stops e b (λ x m b. externals_by (is_end (front b)) (externals n) x m b)) ∙ stops e b (λ ys m b. found (xs ++ ys) m b)
 
-pub all_stops : (stops : Lead → Bool) (self : Tokens → Reading Body) (r : ℕ) (a : Tokens) → stops (front a) ≡ true → all stops self r a ≡ found tree.done r a
-unfolding many
-all_stops stops self r a e = ap (λ z. many_by stops self z (many stops self (length a)) r a) e
+-- it is the last
+pub external_ends : (whole : Reading (List Outer)) (xs ys : List Outer) (n r : ℕ) (a : Tokens) (x : Outer) (m : ℕ) (b : Tokens) → whole ≡ ahead xs (externals (suc n) r a) → external r a ≡ found x m b
+    → is_end (front b) ≡ true → ys ≡ xs ++ x ∷ [] → whole ≡ found ys m b
+unfolding externals
+external_ends whole xs ys n r a x m b w h k p = w ∙ ap (after_external xs n) h ∙ ap (λ z. ahead xs (externals_by z (externals n) x m b)) k ∙ ap (λ z. found z m b) (sym p)
 
-pub all_fails : (stops : Lead → Bool) (self : Tokens → Reading Body) (r : ℕ) (a : Tokens) → stops (front a) ≡ false → self a ≡ nothing → all stops self r a ≡ nothing
-unfolding many
-all_fails stops self r a e h = ap (λ z. many_by stops self z (many stops self (length a)) r a) e ∙ ap (λ o. and_then o (λ x m b. before x (many stops self (length a) r b))) h
+-- one more
+pub external_goes : (whole : Reading (List Outer)) (xs ys : List Outer) (n r : ℕ) (a : Tokens) (x : Outer) (m : ℕ) (b : Tokens) → whole ≡ ahead xs (externals (suc n) r a) → external r a ≡ found x m b
+    → is_end (front b) ≡ false → ys ≡ xs ++ x ∷ [] → whole ≡ ahead ys (externals n m b)
+unfolding externals
+external_goes whole xs ys n r a x m b w h k p =
+    w ∙ ap (after_external xs n) h ∙ ap (λ z. ahead xs (externals_by z (externals n) x m b)) k ∙ ahead-ahead xs (x ∷ []) (externals n m b) ∙ ap (λ z. ahead z (externals n m b)) (sym p)
 
-one_shortens_by : (r : ℕ) (a : Tokens) (o : Reading Code) → does r a ≡ o → (x : Body) (m : ℕ) (b : Tokens) → and_then o (λ c m b. found (tree.next c tree.done) m b) ≡ found x m b → length b < length a
-one_shortens_by r a (found c n d) e x m b h = let same : d ≡ b = cc in subst (λ d. length d < length a) same (does_leaves r a c n d e).1
-one_shortens_by r a nothing e x m b h = absurd (cc)
-
-pub one_shortens : (r : ℕ) → Shortens (one (does r))
-one_shortens r a x m b h = one_shortens_by r a (does r a) refl x m b h
-
--- a statement more
-pub statements_turn : (r : ℕ) (a : Tokens) (c : Code) (m : ℕ) (b : Tokens) → is_close_brace (front a) ≡ false → does r a ≡ found c m b → statements (does r) r a ≡ before (tree.next c tree.done) (statements (does r) r b)
-statements_turn r a c m b e h = all_turn is_close_brace (one (does r)) (one_shortens r) r a (tree.next c tree.done) m b e (ap (λ o. and_then o (λ c m b. found (tree.next c tree.done) m b)) h)
-
-pub statements_stop : (r : ℕ) (a : Tokens) → is_close_brace (front a) ≡ true → statements (does r) r a ≡ found tree.done r a
-statements_stop r a e = all_stops is_close_brace (one (does r)) r a e
-
-pub statements_fail : (r : ℕ) (a : Tokens) → is_close_brace (front a) ≡ false → does r a ≡ nothing → statements (does r) r a ≡ nothing
-statements_fail r a e h = all_fails is_close_brace (one (does r)) r a e (ap (λ o. and_then o (λ c m b. found (tree.next c tree.done) m b)) h)
-
--- a block with room for its brace
-pub block-suc : (r : ℕ) (a : Tokens) → block (suc r) a ≡ braced (does r) (suc r) a
-unfolding block
-block-suc zero a = refl
-block-suc (suc r) a = refl
-
--- a turn of the loop: a statement more
-pub loop_goes : (whole : Reading Body) (r s : ℕ) (a : Tokens) (items : List Item) (x : stmt.Stmt) (m : ℕ) (b : Tokens) → s ≡ r → whole ≡ before (body_of items) (statements (does r) r a) → is_close_brace (front a) ≡ false
-    → does s a ≡ found (code x) m b → (m ≡ r) × (whole ≡ before (body_of (items ++ Stmt x ∷ [])) (statements (does r) r b))
-loop_goes whole r s a items x m b room w h e =
-    let f : does r a ≡ found (code x) m b = subst (λ s. does s a ≡ found (code x) m b) room e in (
-      (does_leaves r a (code x) m b f).0,
-      w ∙ ap (before (body_of items)) (statements_turn r a (code x) m b h f) ∙ before-before (body_of items) (tree.next (code x) tree.done) (statements (does r) r b)
-          ∙ ap (λ y. before y (statements (does r) r b)) (sym (body_of-push items (Stmt x))),
-    )
-
--- its end
-pub loop_ends : (whole : Reading Body) (r s : ℕ) (a : Tokens) (x : Body) → s ≡ r → whole ≡ before x (statements (does r) r a) → is_close_brace (front a) ≡ true → whole ≡ found x s a
-loop_ends whole r s a x room w h = w ∙ ap (before x) (statements_stop r a h) ∙ ap (λ y. found y r a) (append-done x) ∙ ap (λ s. found x s a) (sym room)
-
--- no statement
-pub loop_fails : (whole : Reading Body) (r s : ℕ) (a : Tokens) (x : Body) (e : ParseFault) (m : ℕ) (b : Tokens) → s ≡ r → whole ≡ before x (statements (does r) r a) → is_close_brace (front a) ≡ false
-    → Gives code (does s a) (Err e) m b → Gives (λ (v : Vec Item Global). body_of v.items) whole (Err e) m b
-loop_fails whole r s a x Unsupported m b room w h g = w ∙ ap (before x) (statements_fail r a h (subst (λ s. does s a ≡ nothing) room g))
-loop_fails whole r s a x NoMemory m b room w h g = tt
-
-one_shorter : {a b : Tokens} {x : Body} → OneDeclared a b x → length b < length a
-one_shorter (declared_one h) = omega arith
-
-pub declaration_shortens : (r : ℕ) → Shortens (declaration r)
-declaration_shortens r a x m b e = let h = subst (Says (λ x m b. OneDeclared a b x × (m ≡ r))) e (declaration_ok r a) in one_shorter h.0
-
--- a turn of the loop: a declaration more
-pub declarations_go : (whole : Reading Body) (r s : ℕ) (a : Tokens) (items : List Item) (i : Item) (m : ℕ) (b : Tokens) → s ≡ r → whole ≡ before (body_of items) (declarations r a) → is_no_int (front a) ≡ false
-    → declaration s a ≡ found (with_item i tree.done) m b → (m ≡ r) × (whole ≡ before (body_of (items ++ i ∷ [])) (declarations r b)) × (length b < length a)
-declarations_go whole r s a items i m b room w h e =
-    let f : declaration r a ≡ found (with_item i tree.done) m b = subst (λ s. declaration s a ≡ found (with_item i tree.done) m b) room e in
-    let k = subst (Says (λ x m b. OneDeclared a b x × (m ≡ r))) f (declaration_ok r a) in (
-      k.1,
-      w ∙ ap (before (body_of items)) (all_turn is_no_int (declaration r) (declaration_shortens r) r a (with_item i tree.done) m b h f)
-          ∙ before-before (body_of items) (with_item i tree.done) (declarations r b) ∙ ap (λ y. before y (declarations r b)) (sym (body_of-push items i)),
-      declaration_shortens r a (with_item i tree.done) m b f,
-    )
-
--- its end
-pub declarations_end : (whole : Reading Body) (r s : ℕ) (a : Tokens) (x : Body) → s ≡ r → whole ≡ before x (declarations r a) → is_no_int (front a) ≡ true → whole ≡ found x s a
-declarations_end whole r s a x room w h = w ∙ ap (before x) (all_stops is_no_int (declaration r) r a h) ∙ ap (λ y. found y r a) (append-done x) ∙ ap (λ s. found x s a) (sym room)
-
--- no declaration
-pub declarations_fail : (whole : Reading Body) (r s : ℕ) (a : Tokens) (x : Body) (e : ParseFault) (m : ℕ) (b : Tokens) → s ≡ r → whole ≡ before x (declarations r a) → is_no_int (front a) ≡ false
-    → Gives (λ i. with_item i tree.done) (declaration s a) (Err e) m b → Gives (λ (v : Vec Item Global). body_of v.items) whole (Err e) m b
-declarations_fail whole r s a x Unsupported m b room w h g = w ∙ ap (before x) (all_fails is_no_int (declaration r) r a h (subst (λ s. declaration s a ≡ nothing) room g))
-declarations_fail whole r s a x NoMemory m b room w h g = tt
+-- no turn is left
+pub externals_end : (whole : Reading (List Outer)) (xs : List Outer) (r : ℕ) (a : Tokens) → whole ≡ ahead xs (externals 0 r a) → whole ≡ unexpected a
+unfolding externals
+externals_end whole xs r a w = w

@@ -1,26 +1,112 @@
--- What a function that reads ensures: what the descent finds, unless memory fails.
-use Rattle.std.specs.Prelude.{◌≡◌, ℕ, List, Result, Ok, Err}
+-- What a function that reads ensures: what the descent comes to, unless memory fails.
+use Rattle.std.specs.Prelude.{◌≡◌, ◌≢◌, ℕ, ℤ, suc, Bool, List, map, Option, Result, Ok, Err, Vec}
+use Rattle.std.specs.declared.alloc.Global.{Global}
+use denote.Ref.{MutBor}
+use Rattle.c_tree.specs.declared.expr.Arg.{Arg}
+use Rattle.c_tree.specs.declared.expr.Arg.TheVariants.{Value', Format, Address'}
+use Rattle.c_tree.specs.declared.expr.Expr.{Expr}
 use Rattle.c_tree.specs.declared.place.Span.{Span}
-use Rattle.c_parse.specs.declared.fault.ParseFault.{ParseFault}
-use Rattle.c_parse.specs.declared.fault.ParseFault.TheVariants.{Unsupported, NoMemory}
-use Rattle.c_parse.specs.Grammar.{Tokens, DerivesNone}
-use Rattle.c_parse.specs.Descent.{Reading, found, nothing}
+use Rattle.c_tree.specs.declared.program.External.{External}
+use Rattle.c_tree.specs.declared.program.Param.{Param}
+use Rattle.c_tree.specs.declared.stmt.Declarator.{Declarator}
+use Rattle.c_tree.specs.declared.stmt.Init.{Init}
+use Rattle.c_tree.specs.declared.stmt.Item.{Item}
+use Rattle.c_tree.specs.declared.stmt.Ty.{Ty}
+use Rattle.c_tree.specs.Tree as plain
+use Rattle.c_tree.specs.Tree.{Tree, Variable, First, Body, Outer}
+use Rattle.c_tree.specs.Views.{node_tree, tree, tree_option, trees, variables, first, with_item, body_of, outer}
+use Rattle.c_grammar.specs.declared.part.Part.{Part}
+use Rattle.c_grammar.specs.Grammar.{Tokens, Given, by_value, by_format, by_address}
+use Rattle.c_grammar.specs.Descent.{Reading, found, unexpected, too_deep, Read, run}
+use Rattle.c_parse.specs.declared.cursor.Cursor.{Cursor}
+use Rattle.c_parse.specs.declared.fault.Stop.{Stop}
+use Rattle.c_parse.specs.declared.fault.Stop.TheVariants.{Unexpected, TooDeep, NoMemory}
 
--- the result is what the descent finds, seen as a plain tree, and the cursor stands behind it
-abbrev pub Gives : {X A : Type 0} → (X → A) → Reading A → Result X ParseFault → ℕ → Tokens → Type 0
+-- the outcome of the descent where reading stopped, with the tokens from there on
+abbrev pub stopped : {A : Type 0} → Stop → Tokens → Reading A
+stopped Unexpected b = unexpected b
+stopped TooDeep b = too_deep b
+stopped NoMemory b = unexpected b
+
+-- the result is what the descent finds, seen as a plain tree, and the cursor stands behind it, or at the fault
+abbrev pub Gives : {X A : Type 0} → (X → A) → Reading A → Result X Stop → ℕ → Tokens → Type 0
 Gives view o (Ok x) m b = o ≡ found (view x) m b
-Gives view o (Err Unsupported) m b = o ≡ nothing
-Gives view o (Err NoMemory) m b = Unit {0}
+Gives view o (Err e) m b = e ≢ NoMemory → o ≡ stopped e b
 
--- seen as it is
+-- ---- how results are seen
+
+-- as they are
 abbrev pub itself : {A : Type 0} → A → A
 itself x = x
 
--- a text and its span, seen as the bytes and the span
+-- a text and its span: the bytes and the span
 abbrev pub named : List ℕ × Span → List ℕ × Span
 named x = x
 
--- why tokens have no tree
-abbrev pub Causes : ParseFault → Tokens → Type 0
-Causes Unsupported a = DerivesNone 64 a
-Causes NoMemory a = Unit {0}
+-- a constant: its value, the bytes of its text and the span
+abbrev pub numbered : ℤ × List ℕ × Span → ℤ × List ℕ × Span
+numbered x = x
+
+-- an expression, and whether it is written as a unary expression
+abbrev pub marked : Expr × Bool → Read
+marked x = (tree x.0, x.1)
+
+-- an argument of a call
+abbrev pub given : Arg → Given
+given (Value' e s) = by_value (node_tree e s)
+given (Format w s) = by_format w s
+given (Address' e s) = by_address (node_tree e s)
+
+-- the arguments of a call
+abbrev pub givens : Vec Arg Global → List Given
+givens v = map given v.items
+
+-- the elements of an initialiser list
+abbrev pub elements : Vec Expr Global → List Tree
+elements v = trees v.items
+
+-- declared variables
+abbrev pub declared : Vec Declarator Global → List Variable
+declared v = variables v.items
+
+-- declared variables of a type
+abbrev pub typed : Ty × Vec Declarator Global → Ty × List Variable
+typed x = (x.0, declared x.1)
+
+-- the clauses of a `for`
+abbrev pub clauses : Init × Option Expr × Option Expr → First × Option Tree × Option Tree
+clauses x = (first x.0, tree_option x.1, tree_option x.2)
+
+-- the test of a `do`, and the text of its `;`
+abbrev pub ended : Expr × Span → Tree × Span
+ended x = (tree x.0, x.1)
+
+-- an item of a block, as the items of a block that has no other
+abbrev pub alone : Item → Body
+alone i = with_item i plain.done
+
+-- the items of a block
+abbrev pub body : Vec Item Global → Body
+body v = body_of v.items
+
+-- the items of a function's body, and the text of its `}`
+abbrev pub closed_body : Vec Item Global × Span → Body × Span
+closed_body x = (body x.0, x.1)
+
+-- parameters
+abbrev pub params : Vec Param Global → List Param
+params v = v.items
+
+-- what stands at file scope
+abbrev pub outers : Vec External Global → List Outer
+outers v = map outer v.items
+
+-- ---- readers of smaller parts
+
+-- A function value that reads the parts of expressions to a depth; the turns of a loop are one more.
+pub record Nests (depth turns : ℕ) (pre : Global → MutBor Cursor → ℕ → Part → Type 0)
+    (post : Global → MutBor Cursor → ℕ → Part → Result (Expr × Bool) Stop → MutBor Cursor → Type 0) : Type 0 where
+  pub counted : turns ≡ suc depth
+  pub callable : (alloc : Global) (old : MutBor Cursor) (part : Part) → pre alloc old depth part
+  pub reads : (alloc : Global) (old new : MutBor Cursor) (part : Part) (r : Result (Expr × Bool) Stop) → post alloc old depth part r new
+      → Gives marked (run depth part old.now.room old.now.rest.now) r new.now.room new.now.rest.now

@@ -1,4 +1,3 @@
-pub mod Words
-pub mod Grammar
-pub mod Descent
 pub mod Gives
+pub mod Parts
+pub mod Faults

@@ -4,35 +4,49 @@ use c_tree::NoMemory;
 use std::alloc::AllocFailed;
 use thiserror::Error;
 
-/// Why `parse` has no tree.
+/// Why `parse` has no tree. A place is the first byte of the token that is a fault, or the end of the source.
 #[derive(Clone, Copy, Debug, PartialEq, Eq, Error)]
 pub enum ParseFault {
-    /// The tokens are no program of the language.
-    #[error("not a program")]
-    Unsupported,
+    /// With this token, or with the end of the tokens, nothing is a program.
+    #[error("unexpected token")]
+    Unexpected(u32),
+    /// With this token one opener more is open than a program may have.
+    #[error("nested too deep")]
+    TooDeep(u32),
     /// The allocator had no memory left.
     #[error("out of memory")]
     NoMemory,
 }
 
-impl From<NoMemory> for ParseFault {
+/// Why reading stopped. The cursor stands at the token that is a fault.
+#[derive(Clone, Copy, Debug, PartialEq, Eq)]
+pub enum Stop {
+    /// The token isn't expected.
+    Unexpected,
+    /// The token is an opener, and as many are open as may be.
+    TooDeep,
+    /// The allocator had no memory left.
+    NoMemory,
+}
+
+impl From<NoMemory> for Stop {
     ghost use Rattle.std.specs.Prelude.{◌≡◌};
-    ghost use Rattle.c_parse.specs.declared.fault.ParseFault.TheVariants.{NoMemory};
+    ghost use Rattle.c_parse.specs.declared.fault.Stop.TheVariants.{NoMemory};
 
     ghost from_gives = { λ _ e. e ≡ NoMemory };
 
-    fn from(_error: NoMemory) -> ParseFault {
-        ParseFault::NoMemory
+    fn from(_error: NoMemory) -> Stop {
+        Stop::NoMemory
     }
 }
 
-impl<T: Drop> From<AllocFailed<T>> for ParseFault {
+impl<T: Drop> From<AllocFailed<T>> for Stop {
     ghost use Rattle.std.specs.Prelude.{◌≡◌};
-    ghost use Rattle.c_parse.specs.declared.fault.ParseFault.TheVariants.{NoMemory};
+    ghost use Rattle.c_parse.specs.declared.fault.Stop.TheVariants.{NoMemory};
 
     ghost from_gives = { λ _ e. e ≡ NoMemory };
 
-    fn from(_error: AllocFailed<T>) -> ParseFault {
-        ParseFault::NoMemory
+    fn from(_error: AllocFailed<T>) -> Stop {
+        Stop::NoMemory
     }
 }

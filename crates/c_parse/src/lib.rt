@@ -1,14 +1,16 @@
-//! The grammar of C programs: tokens to trees.
+//! The grammar of C programs, read by descent: tokens to trees.
 #![tactic(auto)]
 
 mod cursor;
+mod declaration;
 mod expression;
 mod fault;
-mod lead;
 mod program;
 mod statement;
 #[cfg(test)]
 mod tests;
+mod tree;
 
+pub use c_grammar::one_program;
 pub use fault::ParseFault;
-pub use program::{one_program, parse};
+pub use program::parse;

@@ -1,105 +1,71 @@
-use Rattle.std.proofs.Common.{rules, arith, ◌≡◌, sym, ap, ◌∙◌, subst, true, false, List}
+use Rattle.std.proofs.Common.{rules, arith, ◌≡◌, ◌-◌, ◌<◌, true, false, sym, ap, ◌∙◌, subst}
 use Rattle.std.proofs.lemmas.Result.{err_from_is_err_and}
-use Rattle.c_tree.specs.declared.stmt.Item.{Item}
-use Rattle.c_tree.specs.Views.{code, tree, body_of}
-use Rattle.c_parse.specs.Descent.{before, front, is_close_brace, statements, does}
-use Rattle.c_parse.specs.Gives.{Gives}
-use Rattle.c_parse.proofs.Steps.{opened_room, tested_keeps, else_keeps, block-steps, branch-steps, repetition-steps, else_word_fails, else_block_fails}
-use Rattle.c_parse.proofs.Turns.{does_leaves, loop_goes, loop_ends, loop_fails}
+use Rattle.c_tree.specs.Tree as tree
+use Rattle.c_tree.specs.Views.{code, tree as tree_of, body_of}
+use Rattle.c_grammar.specs.Leads.{front, is_close_brace, is_else}
+use Rattle.c_grammar.specs.Descent.{found}
+use Rattle.c_grammar.specs.ProgramDescent.{before, items, items_within, under, statement}
+use Rattle.c_parse.specs.Gives.{Gives, body, alone}
+use Rattle.c_parse.proofs.Shapes.{body_of-push}
+use Rattle.c_parse.proofs.Turns.{one_more, no_more, items_begin, items_end, item_fails, item_goes, block_ends}
+use Rattle.c_parse.proofs.Steps.{under-suc, block_fails, block_unclosed, block_found, branch_fails}
 use Rattle.c_parse.proofs.statement.+statement.Goals as goal
-
-pub block-returns-in_err-from : goal.block-returns-in_err-from
-block-returns-in_err-from t c = subst (λ o. Gives code o c.from_residual.result c.open_brace.new.self.room c.open_brace.new.self.rest.now) (sym (block-steps c.args.cursor.now.room c.args.cursor.now.rest.now)) (search rules)
 
 pub block-returns-in_err-items : goal.block-returns-in_err-items
 block-returns-in_err-items t c =
-    subst (λ o. Gives code o c.from_residual-in_err-items.result c.statements.new.cursor.room c.statements.new.cursor.rest.now) (sym (block-steps c.args.cursor.now.room c.args.cursor.now.rest.now)) (search rules)
+    let p = err_from_is_err_and c.from_residual-in_err-items.result c.from_residual-in_err-items.ensures.1 in
+    rw (p.1, p.2)
+    (λ h. block_fails c.args.cursor.now.room c.args.cursor.now.rest.now c.in_ok-from.from c.open.new.self.room c.open.new.self.rest.now c.in_err-items.field-0.0 c.items.new.cursor.rest.now c.in_ok-from.ensures (c.in_err-items.ensures h))
 
 pub block-returns-in_err-to : goal.block-returns-in_err-to
 block-returns-in_err-to t c =
-    subst (λ o. Gives code o c.from_residual-in_err-to.result c.close_brace.new.self.room c.close_brace.new.self.rest.now) (sym (block-steps c.args.cursor.now.room c.args.cursor.now.rest.now)) (search rules)
+    let p = err_from_is_err_and c.from_residual-in_err-to.result c.from_residual-in_err-to.ensures.1 in
+    rw (p.1, p.2)
+    (λ h.
+    block_unclosed c.args.cursor.now.room c.args.cursor.now.rest.now c.in_ok-from.from c.open.new.self.room c.open.new.self.rest.now (body c.in_ok-items.items) c.items.new.cursor.room c.items.new.cursor.rest.now c.in_err-to.field-0.0 c.close_brace.new.self.rest.now
+    c.in_ok-from.ensures c.in_ok-items.ensures (c.in_err-to.ensures h))
 
 pub block-returns : goal.block-returns
-block-returns t c = block-steps c.args.cursor.now.room c.args.cursor.now.rest.now ∙ (search rules)
+block-returns t c =
+    block_found c.args.cursor.now.room c.args.cursor.now.rest.now c.in_ok-from.from c.open.new.self.room c.open.new.self.rest.now (body c.in_ok-items.items) c.items.new.cursor.room c.items.new.cursor.rest.now c.in_ok-to.to c.close_brace.new.self.room
+    c.close_brace.new.self.rest.now c.in_ok-from.ensures c.in_ok-items.ensures c.in_ok-to.ensures
+    ∙ ap (λ x. found x c.close_brace.new.self.room c.close_brace.new.self.rest.now) (sym c.in_braces.ensures)
 
-pub branch-block-requires : goal.branch-block-requires
-branch-block-requires t c =
-    let o = opened_room c.args.cursor.now.room c.args.cursor.now.rest.now c.in_ok-from.from c.open.new.self.room c.open.new.self.rest.now c.in_ok-from.ensures in
-    let k = tested_keeps c.open.new.self.room c.open.new.self.rest.now _ c.tested.new.cursor.room c.tested.new.cursor.rest.now c.in_ok-test.ensures in
-    (omega (arith, o, k, c.decreases), tt)
-
-pub repetition-block-requires : goal.repetition-block-requires
-repetition-block-requires t c =
-    let o = opened_room c.args.cursor.now.room c.args.cursor.now.rest.now c.in_ok-from.from c.open.new.self.room c.open.new.self.rest.now c.in_ok-from.ensures in
-    let k = tested_keeps c.open.new.self.room c.open.new.self.rest.now _ c.tested.new.cursor.room c.tested.new.cursor.rest.now c.in_ok-test.ensures in
-    (omega (arith, o, k, c.decreases), tt)
-
-pub branch-returns-in_err-yes : goal.branch-returns-in_err-yes
-branch-returns-in_err-yes t c =
-    subst (λ o. Gives code o c.from_residual-in_err-yes.result c.block.new.cursor.room c.block.new.cursor.rest.now) (sym (branch-steps c.args.cursor.now.room c.args.cursor.now.rest.now)) (search rules)
-
-pub branch-returns-in_err-take-in-Else : goal.branch-returns-in_err-take-in-Else
-branch-returns-in_err-take-in-Else t c =
-    let p = err_from_is_err_and c.from_residual-in_err-take-in-Else.result c.from_residual-in_err-take-in-Else.ensures.1 in
+pub branch-returns-in_err-no : goal.branch-returns-in_err-no
+branch-returns-in_err-no t c =
+    let k : is_else (front c.inner.new.cursor.rest.now) ≡ true = search rules in
+    let p = err_from_is_err_and c.from_residual-in_err-no.result c.from_residual-in_err-no.ensures.1 in
     rw (p.1, p.2)
-    (else_word_fails c.args.cursor.now.room c.args.cursor.now.rest.now c.in_ok-from.from c.open.new.self.room c.open.new.self.rest.now (tree c.in_ok-test.test) c.tested.new.cursor.room c.tested.new.cursor.rest.now
-    (code c.in_ok-yes.yes) c.block.new.cursor.room c.block.new.cursor.rest.now c.in_err-take-in-Else.field-0.0 c.take.new.self.room c.take.new.self.rest.now c.in_ok-from.ensures c.in_ok-test.ensures
-    c.in_ok-yes.ensures c.in-Else.ensures c.in_err-take-in-Else.ensures)
+    (λ h.
+    branch_fails c.args.cursor.now.room c.args.cursor.now.rest.now c.in_ok-from.from c.open.new.self.room c.open.new.self.rest.now (tree_of c.in_ok-test.test) c.tested.new.cursor.room c.tested.new.cursor.rest.now (code c.in_ok-yes.yes) c.inner.new.cursor.room
+    c.inner.new.cursor.rest.now c.in_ok-take.field-0 c.take.new.self.room c.take.new.self.rest.now c.in_err-no.field-0.0 c.inner-2.new.cursor.rest.now c.in_ok-from.ensures c.in_ok-test.ensures c.in_ok-yes.ensures k
+    c.in_ok-take.ensures (c.in_err-no.ensures h))
 
-pub branch-block-requires-in-Else : goal.branch-block-requires-in-Else
-branch-block-requires-in-Else t c =
-    let o = opened_room c.args.cursor.now.room c.args.cursor.now.rest.now c.in_ok-from.from c.open.new.self.room c.open.new.self.rest.now c.in_ok-from.ensures in
-    let k = else_keeps c.open.new.self.room c.tested.new.cursor.room c.block.new.cursor.room c.take.new.self.room c.open.new.self.rest.now c.tested.new.cursor.rest.now c.block.new.cursor.rest.now c.take.new.self.rest.now
-    (tree c.in_ok-test.test) (code c.in_ok-yes.yes) c.in_ok-take-in-Else.field-0 c.in_ok-test.ensures c.in_ok-yes.ensures c.in_ok-take-in-Else.ensures in
-    (omega (arith, o, k, c.decreases), tt)
+pub inner-returns : goal.inner-returns
+inner-returns t c =
+    let some : 0 < c.args.outside = omega arith in
+    subst (λ o. Gives code o c.statement.result c.statement.new.cursor.room c.statement.new.cursor.rest.now) (sym (under-suc c.args.outside c.args.cursor.now.rest.now some)) c.statement.ensures
 
-pub branch-returns-in_err-no-in-Else : goal.branch-returns-in_err-no-in-Else
-branch-returns-in_err-no-in-Else t c =
-    let p = err_from_is_err_and c.from_residual-in_err-no-in-Else.result c.from_residual-in_err-no-in-Else.ensures.1 in
-    rw (p.1, p.2)
-    (else_block_fails c.args.cursor.now.room c.args.cursor.now.rest.now c.in_ok-from.from c.open.new.self.room c.open.new.self.rest.now (tree c.in_ok-test.test) c.tested.new.cursor.room c.tested.new.cursor.rest.now
-    (code c.in_ok-yes.yes) c.block.new.cursor.room c.block.new.cursor.rest.now c.in_ok-take-in-Else.field-0 c.take.new.self.room c.take.new.self.rest.now c.in_err-no-in-Else.field-0.0
-    c.block-in-Else.new.cursor.room c.block-in-Else.new.cursor.rest.now c.in_ok-from.ensures c.in_ok-test.ensures c.in_ok-yes.ensures c.in-Else.ensures c.in_ok-take-in-Else.ensures
-    c.in_err-no-in-Else.ensures)
+pub items-loop-turn-init : goal.items-loop-turn-init
+items-loop-turn-init t c = items_begin (under c.args.outside) _ _ c.args.cursor.now.room c.args.cursor.now.rest.now (ap body_of c.new-items.ensures.items) (omega arith)
 
-pub branch-returns-in_ok-choice_or_else-in-Else : goal.branch-returns-in_ok-choice_or_else-in-Else
-branch-returns-in_ok-choice_or_else-in-Else t c = branch-steps c.args.cursor.now.room c.args.cursor.now.rest.now ∙ (search rules)
+pub items-returns-then-is_at_close_brace : goal.items-returns-then-is_at_close_brace
+items-returns-then-is_at_close_brace t c =
+    let k : is_close_brace (front c.loop-turn.cursor.rest.now) ≡ true = search rules in
+    items_end (under c.args.outside) (items (under c.args.outside) c.args.cursor.now.room c.args.cursor.now.rest.now) (body c.loop-turn.items) _ c.args.cursor.now.room c.loop-turn.cursor.rest.now (one_more {x = items (under c.args.outside) c.args.cursor.now.room c.args.cursor.now.rest.now} (λ n. before (body c.loop-turn.items) (items_within (under c.args.outside) n c.args.cursor.now.room c.loop-turn.cursor.rest.now)) _ c.loop-turn._turn c.loop-turn-test.true c.loop-turn.invariant) k
 
-pub branch-returns-in_ok-choice-in_default : goal.branch-returns-in_ok-choice-in_default
-branch-returns-in_ok-choice-in_default t c = branch-steps c.args.cursor.now.room c.args.cursor.now.rest.now ∙ (search rules)
-
-pub repetition-returns-in_err-body : goal.repetition-returns-in_err-body
-repetition-returns-in_err-body t c =
-    subst (λ o. Gives code o c.from_residual-in_err-body.result c.block.new.cursor.room c.block.new.cursor.rest.now) (sym (repetition-steps c.args.cursor.now.room c.args.cursor.now.rest.now)) (search rules)
-
-pub repetition-returns : goal.repetition-returns
-repetition-returns t c = repetition-steps c.args.cursor.now.room c.args.cursor.now.rest.now ∙ (search rules)
-
-pub statements-returns-in_err-next : goal.statements-returns-in_err-next
-statements-returns-in_err-next t c =
+pub items-returns-in_err-next : goal.items-returns-in_err-next
+items-returns-in_err-next t c =
+    let k : is_close_brace (front c.loop-turn.cursor.rest.now) ≡ false = search rules in
     let p = err_from_is_err_and c.from_residual.result c.from_residual.ensures.1 in
-    let h : is_close_brace (front c.loop-alloc.cursor.rest.now) ≡ false = search rules in
     rw (p.1, p.2)
-    (loop_fails (before (body_of c.args.items.items) (statements (does c.args.cursor.now.room) c.args.cursor.now.room c.args.cursor.now.rest.now)) c.args.cursor.now.room c.loop-alloc.cursor.room
-    c.loop-alloc.cursor.rest.now (body_of c.loop-alloc.items.items) c.in_err-next.field-0.0 c.statement.new.cursor.room c.statement.new.cursor.rest.now c.loop-alloc.invariant.0
-    c.loop-alloc.invariant.1 h c.in_err-next.ensures)
+    (λ h. item_fails (under c.args.outside) (items (under c.args.outside) c.args.cursor.now.room c.args.cursor.now.rest.now) (body c.loop-turn.items) _ c.args.cursor.now.room c.loop-turn.cursor.rest.now c.in_err-next.field-0.0 c.item.new.cursor.rest.now (one_more {x = items (under c.args.outside) c.args.cursor.now.room c.args.cursor.now.rest.now} (λ n. before (body c.loop-turn.items) (items_within (under c.args.outside) n c.args.cursor.now.room c.loop-turn.cursor.rest.now)) _ c.loop-turn._turn c.loop-turn-test.true c.loop-turn.invariant) k (c.in_err-next.ensures h))
 
-pub statements-loop-alloc-smaller : goal.statements-loop-alloc-smaller
-statements-loop-alloc-smaller t c =
-    (does_leaves c.loop-alloc.cursor.room c.loop-alloc.cursor.rest.now (code c.in_ok-next.next) c.statement.new.cursor.room c.statement.new.cursor.rest.now c.in_ok-next.ensures).1
+pub items-loop-turn-preserved : goal.items-loop-turn-preserved
+items-loop-turn-preserved t c =
+    let k : is_close_brace (front c.loop-turn.cursor.rest.now) ≡ false = search rules in
+    item_goes (under c.args.outside) (items (under c.args.outside) c.args.cursor.now.room c.args.cursor.now.rest.now) (body c.loop-turn.items) _ _ c.args.cursor.now.room c.loop-turn.cursor.rest.now (alone c.in_ok-next.next) c.item.new.cursor.room c.item.new.cursor.rest.now (one_more {x = items (under c.args.outside) c.args.cursor.now.room c.args.cursor.now.rest.now} (λ n. before (body c.loop-turn.items) (items_within (under c.args.outside) n c.args.cursor.now.room c.loop-turn.cursor.rest.now)) _ c.loop-turn._turn c.loop-turn-test.true c.loop-turn.invariant) k c.in_ok-next.ensures
+    (ap body_of c.in_ok-push.ensures.items ∙ body_of-push _ _)
 
-pub statements-loop-alloc-preserved : goal.statements-loop-alloc-preserved
-statements-loop-alloc-preserved t c =
-    let h : is_close_brace (front c.loop-alloc.cursor.rest.now) ≡ false = search rules in
-    let p = loop_goes (before (body_of c.args.items.items) (statements (does c.args.cursor.now.room) c.args.cursor.now.room c.args.cursor.now.rest.now)) c.args.cursor.now.room c.loop-alloc.cursor.room
-    c.loop-alloc.cursor.rest.now c.loop-alloc.items.items c.in_ok-next.next c.statement.new.cursor.room c.statement.new.cursor.rest.now c.loop-alloc.invariant.0 c.loop-alloc.invariant.1 h
-    c.in_ok-next.ensures in (
-      p.0,
-      p.1 ∙ ap (λ xs. before (body_of xs) (statements (does c.args.cursor.now.room) c.args.cursor.now.room c.statement.new.cursor.rest.now)) (sym {A = List Item} c.in_ok-push.ensures.items),
-    )
-
-pub statements-returns : goal.statements-returns
-statements-returns t c =
-    let h : is_close_brace (front c.loop-alloc.cursor.rest.now) ≡ true = search rules in
-    loop_ends (before (body_of c.args.items.items) (statements (does c.args.cursor.now.room) c.args.cursor.now.room c.args.cursor.now.rest.now)) c.args.cursor.now.room c.loop-alloc.cursor.room
-    c.loop-alloc.cursor.rest.now (body_of c.loop-alloc.items.items) c.loop-alloc.invariant.0 c.loop-alloc.invariant.1 h
+pub items-returns : goal.items-returns
+items-returns t c = λ h. block_ends (under c.args.outside) (items (under c.args.outside) c.args.cursor.now.room c.args.cursor.now.rest.now) (body c.loop-turn.items) c.args.cursor.now.room c.loop-turn.cursor.rest.now (no_more {x = items (under c.args.outside) c.args.cursor.now.room c.args.cursor.now.rest.now} (λ n. before (body c.loop-turn.items) (items_within (under c.args.outside) n c.args.cursor.now.room c.loop-turn.cursor.rest.now)) _ c.loop-turn._turn c.loop-turn-test.false c.loop-turn.invariant)

@@ -1,28 +1,35 @@
-use Rattle.std.proofs.Common.{◌≡◌, ◌+◌, ◌*◌, length}
-use Rattle.c_tree.specs.Views.{body_of}
-use Rattle.c_parse.specs.Descent.{before, statements, does}
+use Rattle.std.proofs.Common.{◌≡◌, ◌+◌, ◌-◌, ◌*◌}
+use Rattle.c_grammar.specs.ProgramDescent.{before, items, items_within, under}
+use Rattle.c_parse.specs.Gives.{body}
 use Rattle.c_parse.proofs.statement.+statement.Given as goal
 
+abbrev pub decreases-inner : goal.decreases-inner
+decreases-inner l = 8 * l.outside
+
+abbrev pub decreases-item : goal.decreases-item
+decreases-item l = 8 * l.outside + 1
+
+abbrev pub decreases-items : goal.decreases-items
+decreases-items l = 8 * l.outside + 2
+
 abbrev pub decreases-block : goal.decreases-block
-decreases-block l = 4 * l.cursor.now.room
+decreases-block l = 8 * l.cursor.now.room + 3
 
 abbrev pub decreases-branch : goal.decreases-branch
-decreases-branch l = 4 * l.cursor.now.room + 1
+decreases-branch l = 8 * l.cursor.now.room + 3
 
-abbrev pub decreases-repetition : goal.decreases-repetition
-decreases-repetition l = 4 * l.cursor.now.room + 1
+abbrev pub decreases-while_loop : goal.decreases-while_loop
+decreases-while_loop l = 8 * l.cursor.now.room + 3
+
+abbrev pub decreases-do_loop : goal.decreases-do_loop
+decreases-do_loop l = 8 * l.cursor.now.room + 3
+
+abbrev pub decreases-for_loop : goal.decreases-for_loop
+decreases-for_loop l = 8 * l.cursor.now.room + 3
 
 abbrev pub decreases-statement : goal.decreases-statement
-decreases-statement l = 4 * l.cursor.now.room + 2
+decreases-statement l = 8 * l.cursor.now.room + 4
 
-abbrev pub decreases-statements : goal.decreases-statements
-decreases-statements l = 4 * l.cursor.now.room + 3
-
-abbrev pub invariant-statements-loop-alloc : goal.invariant-statements-loop-alloc
-invariant-statements-loop-alloc l =
-    (l.cursor.room ≡ l.fn.cursor.room)
-    × (before (body_of l.fn.items.items) (statements (does l.fn.cursor.room) l.fn.cursor.room l.fn.cursor.rest.now)
-    ≡ before (body_of l.items.items) (statements (does l.fn.cursor.room) l.fn.cursor.room l.cursor.rest.now))
-
-abbrev pub decreases-statements-loop-alloc : goal.decreases-statements-loop-alloc
-decreases-statements-loop-alloc l = length l.cursor.rest.now
+abbrev pub invariant-items-loop-turn : goal.invariant-items-loop-turn
+invariant-items-loop-turn l =
+    items (under l.outside) l.fn.cursor.room l.fn.cursor.rest.now ≡ before (body l.items) (items_within (under l.outside) (l._turn-end - l._turn) l.fn.cursor.room l.cursor.rest.now)

@@ -1,0 +1,34 @@
+-- What an answer of `parse` says of the tokens.
+use Rattle.std.specs.Prelude.{◌≡◌, ◌≢◌, ℕ, ◌≤◌, [], ◌∷◌, Result, Ok, Err}
+use Rattle.c_tree.specs.declared.program.Program.{Program}
+use Rattle.c_tree.specs.Views.{program}
+use Rattle.c_grammar.specs.Grammar.{Tokens}
+use Rattle.c_grammar.specs.Judge.{Verdict, good, unexpected_at, too_deep_at, Judged}
+use Rattle.c_parse.specs.declared.fault.ParseFault.{ParseFault}
+use Rattle.c_parse.specs.declared.fault.ParseFault.TheVariants.{Unexpected, TooDeep, NoMemory}
+
+-- where the next token begins; at the end of the tokens, where their source ends
+abbrev pub place_of : ℕ → Tokens → ℕ
+place_of end [] = end
+place_of end ((k, s) ∷ a) = s.from
+
+-- why tokens have no tree: at the place begins their first fault
+abbrev pub Causes : ℕ → Tokens → ParseFault → Type 0
+Causes end a (Unexpected at) = (b : Tokens) × (at ≡ place_of end b) × Judged 64 a (unexpected_at b)
+Causes end a (TooDeep at) = (b : Tokens) × (at ≡ place_of end b) × Judged 64 a (too_deep_at b)
+Causes end a NoMemory = Unit {0}
+
+-- the place of a fault is at most the length of the source
+abbrev pub IsPlaced : ℕ → ParseFault → Type 0
+IsPlaced end (Unexpected at) = at ≤ end
+IsPlaced end (TooDeep at) = at ≤ end
+IsPlaced end NoMemory = Unit {0}
+
+-- the answer is the one that goes with the verdict, unless memory fails
+abbrev pub Says : ℕ → Verdict → Result Program ParseFault → Type 0
+Says end (good q) (Ok p) = program p ≡ q
+Says end (good q) (Err e) = e ≡ NoMemory
+Says end (unexpected_at b) (Ok p) = ⊥
+Says end (unexpected_at b) (Err e) = e ≢ NoMemory → e ≡ Unexpected (place_of end b)
+Says end (too_deep_at b) (Ok p) = ⊥
+Says end (too_deep_at b) (Err e) = e ≢ NoMemory → e ≡ TooDeep (place_of end b)
