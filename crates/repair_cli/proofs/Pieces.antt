@@ -1,9 +1,8 @@
--- A message that is written in three pieces, one behind another.
+-- A message that is written in pieces, one behind another.
 use Rattle.std.proofs.Common.{◌≡◌, ℕ, ◌+◌, ◌<◌, ◌≤◌, List, ◌++◌, length, take, refl, sym, ap, ◌∙◌, arith, append_assoc, length-append}
 use Rattle.std.specs.Prelude.{Option, Some, None}
 use Rattle.std.proofs.lemmas.List.{take-append-le}
 use Rattle.std.proofs.Math.Seq.{take-append-add}
-use Rattle.fx_io.specs.Faults.{Rose}
 use Rattle.fx_io.specs.Written.{appended}
 use Rattle.fx_io.proofs.FaultCounts.{Rose-later}
 use Rattle.repair_cli.specs.Sinks.{told, Breaks}
@@ -32,11 +31,14 @@ front_of_second : (first mid last : Option (List ℕ)) (a b : List ℕ) → mid 
 front_of_second first mid last a b one (n, within, some) =
     (length a + n, omega (arith, length-append a b, within), appends_both first mid last a (take n b) one some ∙ ap (appended first) (sym (take-append-add a b n)))
 
--- the write of the second piece failed
-pub second_breaks : (f0 f1 f2 : ℕ) (first mid last : Option (List ℕ)) (a b c : List ℕ) → f0 ≤ f1 → mid ≡ appended first a → Rose f1 f2 → AppendsSome mid last b → Breaks (told f0 f2 first last) (a ++ b ++ c)
-second_breaks f0 f1 f2 first mid last a b c later one rose front = record { rose = Rose-later f0 f1 f2 later rose; front = front_of_first first last (a ++ b) c (front_of_second first mid last a b one front) }
+-- the write of the piece behind appended bytes failed
+pub breaks_behind : (f0 f1 f2 : ℕ) (first mid last : Option (List ℕ)) (a b : List ℕ) → f0 ≤ f1 → mid ≡ appended first a → Breaks (told f1 f2 mid last) b → Breaks (told f0 f2 first last) (a ++ b)
+breaks_behind f0 f1 f2 first mid last a b later one broken = record { rose = Rose-later f0 f1 f2 later broken.rose; front = front_of_second first mid last a b one broken.front }
 
--- the write of the third piece failed
-pub third_breaks : (f0 f1 f2 f3 : ℕ) (first mid next last : Option (List ℕ)) (a b c : List ℕ) → f0 ≤ f1 → f1 ≤ f2 → mid ≡ appended first a → next ≡ appended mid b → Rose f2 f3 → AppendsSome next last c → Breaks (told f0 f3 first last) (a ++ b ++ c)
-third_breaks f0 f1 f2 f3 first mid next last a b c later more one two rose front =
-    record { rose = Rose-later f0 f2 f3 (omega (arith, later, more)) rose; front = front_of_second first next last (a ++ b) c (appends_both first mid next a b one two) front }
+-- a failed write of some bytes is one of these bytes and more
+pub breaks_longer : (f0 f1 : ℕ) (first last : Option (List ℕ)) (a b : List ℕ) → Breaks (told f0 f1 first last) a → Breaks (told f0 f1 first last) (a ++ b)
+breaks_longer f0 f1 first last a b broken = record { rose = broken.rose; front = front_of_first first last a b broken.front }
+
+-- the write of the piece behind two appended ones failed
+pub breaks_third : (f0 f1 f2 f3 : ℕ) (first mid next last : Option (List ℕ)) (a b c : List ℕ) → f0 ≤ f1 → f1 ≤ f2 → mid ≡ appended first a → next ≡ appended mid b → Breaks (told f2 f3 next last) c → Breaks (told f0 f3 first last) (a ++ b ++ c)
+breaks_third f0 f1 f2 f3 first mid next last a b c later more one two broken = breaks_behind f0 f2 f3 first next last (a ++ b) c (omega (arith, later, more)) (appends_both first mid next a b one two) broken

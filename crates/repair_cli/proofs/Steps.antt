@@ -7,7 +7,7 @@ use Rattle.fx_io.proofs.FaultCounts.{Rose-later}
 use Rattle.c_tree.specs.Tree.{Outer}
 use Rattle.c_stdio.specs.declared.test.Test.{Test}
 use Rattle.repair_cli.specs.Words.{names_in}
-use Rattle.repair_cli.specs.Texts.{unsupported, bad_suite, cannot_read}
+use Rattle.repair_cli.specs.Texts.{bad_suite, cannot_read}
 use Rattle.repair_cli.specs.Ends.{Ends, IsAnswer}
 use Rattle.repair_cli.specs.Parts.{GivesNoProgram, GivesNoSuite, Reports}
 use Rattle.repair_cli.specs.Sinks.{Told}
@@ -16,17 +16,22 @@ use Rattle.repair_cli.specs.Source.{Held, Source, source, HoldsProgram, HoldsSui
 use Rattle.repair_cli.specs.declared.answer.Answer.{Answer}
 use Rattle.repair_cli.specs.declared.answer.Answer.TheVariants as answer
 use Rattle.repair_cli.specs.declared.status.Status.{Status}
+use Rattle.repair_cli.specs.declared.status.Status.TheVariants as status
 use Rattle.repair_cli.specs.declared.refusal.Refusal.{Refusal}
 use Rattle.repair_cli.specs.declared.refusal.Refusal.TheVariants as reason
 
 -- the program was not had
-pub program_fails : (words : List (List ℕ)) (held : Held) (f0 f1 : ℕ) (program suite : List ℕ) (r : Refusal) → names_in words ≡ Some (program, suite) → GivesNoProgram held program f0 f1 r → Cause (source words held f0 f1) (status_of r) (message_of r)
-program_fails words held f0 f1 program suite (reason.Read n) lawful why = (record { program = program; suite = suite; lawful = lawful }, inl (why.1, ap cannot_read why.0))
-program_fails words held f0 f1 program suite (reason.Program n) lawful why = (record { program = program; suite = suite; lawful = lawful }, why.1, ap unsupported why.0)
-program_fails words held f0 f1 program suite reason.Memory lawful why = refl
-program_fails words held f0 f1 program suite reason.Usage lawful why = absurd why
-program_fails words held f0 f1 program suite (reason.Suite n) lawful why = absurd why
-program_fails words held f0 f1 program suite reason.Write lawful why = absurd why
+gives_cause : (words : List (List ℕ)) (held : Held) (f0 f1 : ℕ) (program suite : List ℕ) (status : Status) (text : List ℕ) → names_in words ≡ Some (program, suite) → GivesNoProgram held program f0 f1 status text
+    → Cause (source words held f0 f1) status text
+gives_cause words held f0 f1 program suite status.ReadFault text lawful why = (record { program = program; suite = suite; lawful = lawful }, inl why)
+gives_cause words held f0 f1 program suite status.ProgramRefused text lawful why = (record { program = program; suite = suite; lawful = lawful }, why)
+gives_cause words held f0 f1 program suite status.NoMemory text lawful why = why
+gives_cause words held f0 f1 program suite _ text lawful why = absurd why
+
+-- the program was not had
+pub program_fails : (words : List (List ℕ)) (held : Held) (f0 f1 : ℕ) (program suite : List ℕ) (r : Refusal) → names_in words ≡ Some (program, suite)
+    → GivesNoProgram held program f0 f1 (status_of r) (message_of r) → Cause (source words held f0 f1) (status_of r) (message_of r)
+program_fails words held f0 f1 program suite r lawful why = gives_cause words held f0 f1 program suite (status_of r) (message_of r) lawful why
 
 -- the program was accepted, and the suite was not had
 suite_fails_here : (words : List (List ℕ)) (held : Held) (f0 f1 f2 : ℕ) (program suite : List ℕ) (bytes : List ℕ) (tree : List Outer) (r : Refusal) → names_in words ≡ Some (program, suite) → HoldsProgram held program bytes tree → f0 ≤ f1 → GivesNoSuite held suite f1 f2 r
@@ -38,6 +43,8 @@ suite_fails_here words held f0 f1 f2 program suite bytes tree (reason.Suite n) l
 suite_fails_here words held f0 f1 f2 program suite bytes tree reason.Memory lawful holds later why = refl
 suite_fails_here words held f0 f1 f2 program suite bytes tree reason.Usage lawful holds later why = absurd why
 suite_fails_here words held f0 f1 f2 program suite bytes tree (reason.Program n) lawful holds later why = absurd why
+suite_fails_here words held f0 f1 f2 program suite bytes tree (reason.Fault n line column said) lawful holds later why = absurd why
+suite_fails_here words held f0 f1 f2 program suite bytes tree (reason.TooLong n) lawful holds later why = absurd why
 suite_fails_here words held f0 f1 f2 program suite bytes tree reason.Write lawful holds later why = absurd why
 
 pub suite_fails : (words : List (List ℕ)) (held mid : Held) (f0 f1 f2 : ℕ) (program suite : List ℕ) (bytes : List ℕ) (tree : List Outer) (r : Refusal) → names_in words ≡ Some (program, suite) → HoldsProgram held program bytes tree → mid ≡ held → f0 ≤ f1 → GivesNoSuite mid suite f1 f2 r

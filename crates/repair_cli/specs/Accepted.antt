@@ -1,32 +1,41 @@
 -- Which programs and suites are accepted, and when a program passes a test.
-use Rattle.std.specs.Prelude.{◌≡◌, ℕ, ◌≤◌, List, length, Some, None}
+use Rattle.std.specs.Prelude.{◌≡◌, ℕ, ◌≤◌, Bool, true, List, length, Some, None, Ok}
 use Rattle.c_tree.specs.Locations.{locations}
 use Rattle.c_tree.specs.Tree.{Outer}
-use Rattle.c_tree.specs.declared.place.Span.{Span}
-use Rattle.c_lex.specs.Tokens.{IsTokens}
-use Rattle.c_lex.specs.declared.token.TokenKind.{TokenKind}
-use Rattle.c_parse.specs.Grammar.{Derives}
+use Rattle.c_lex.specs.Tokens.{Lexes}
+use Rattle.c_grammar.specs.Grammar.{Tokens}
+use Rattle.c_grammar.specs.Programs.{Derives}
+use Rattle.plain_form.specs.Form.{is_plain}
 use Rattle.c_types.specs.Names.{IsWellNamed, resolved}
 use Rattle.c_stdio.specs.declared.test.Test.{Test}
 use Rattle.c_meaning.specs.Ends.{outcome}
 use Rattle.c_meaning.specs.declared.outcome.Outcome.TheVariants.{Passed}
 use Rattle.test_suite.specs.Suite.{suite, default_limit}
 
--- a source states a program: it is short, its tokens have one tree whose names are declared, and the program is that
--- tree with the variable of each name; it has few locations
-pub record IsProgram (bytes : List ℕ) (program : List Outer) : Type 0 where
+-- a source has these tokens: it is short, and is cut into them
+pub record IsCut (bytes : List ℕ) (tokens : Tokens) : Type 0 where
   pub short : length bytes ≤ 65536
-  pub tokens : List (TokenKind × Span)
-  pub cut : IsTokens bytes tokens
-  pub tree : List Outer
+  pub cut : Lexes bytes (Ok tokens)
+
+-- a source has this tree: its tokens derive it with nesting at most 64
+pub record IsRead (bytes : List ℕ) (tree : List Outer) : Type 0 where
+  pub tokens : Tokens
+  pub cut : IsCut bytes tokens
   pub derived : Derives 64 tokens tree
+
+-- a tree can be run: it has the plain form, its names are declared, and the program is the tree with the variable of each
+-- name; it has few locations
+pub record IsRunnable (tree program : List Outer) : Type 0 where
+  pub plain : is_plain tree ≡ true
   pub named : IsWellNamed tree
   pub is_resolved : program ≡ resolved tree
   pub few : length (locations program) ≤ 4096
 
--- these bytes state no program
-abbrev pub StatesNoProgram : List ℕ → Type 0
-StatesNoProgram bytes = (program : List Outer) → IsProgram bytes program → ⊥
+-- a source states a program: it has a tree that can be run
+pub record IsProgram (bytes : List ℕ) (program : List Outer) : Type 0 where
+  pub tree : List Outer
+  pub read : IsRead bytes tree
+  pub runnable : IsRunnable tree program
 
 -- these bytes state these tests
 abbrev pub IsSuite : List ℕ → List Test → Type 0

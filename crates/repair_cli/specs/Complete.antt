@@ -20,8 +20,8 @@ HasRoom source room = (answer : Answer) (text : List ℕ) → IsAnswer source an
 
 -- no message of a call with these names is longer
 abbrev pub longest : Option (List ℕ × List ℕ) → ℕ
-longest None = 32
-longest (Some names) = 32 + length names.0 + length names.1
+longest None = 64
+longest (Some names) = 64 + length names.0 + length names.1
 
 -- P, if the refusal is a failed read
 abbrev pub OnRead : Refusal → Type 0 → Type 0

@@ -2,8 +2,10 @@ pub mod Accepted
 pub mod Answer
 pub mod Complete
 pub mod Ends
+pub mod FaultTexts
 pub mod Faults
 pub mod Laws
+pub mod Message
 pub mod Numbers
 pub mod Parts
 pub mod Patches

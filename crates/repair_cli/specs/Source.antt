@@ -4,9 +4,10 @@ use Rattle.fx_io.specs.Faults.{Rose}
 use Rattle.fx_io.specs.Held.{IsContent, Lacks}
 use Rattle.c_tree.specs.Tree.{Outer}
 use Rattle.c_stdio.specs.declared.test.Test.{Test}
-use Rattle.repair_cli.specs.Accepted.{IsProgram, StatesNoProgram, IsSuite, StatesNoSuite}
+use Rattle.repair_cli.specs.Accepted.{IsProgram, IsSuite, StatesNoSuite}
+use Rattle.repair_cli.specs.Faults.{Refuses}
 use Rattle.repair_cli.specs.Words.{names_in}
-use Rattle.repair_cli.specs.Texts.{usage, unsupported, bad_suite, cannot_read, no_memory}
+use Rattle.repair_cli.specs.Texts.{usage, bad_suite, cannot_read, no_memory}
 use Rattle.repair_cli.specs.declared.status.Status.{Status}
 use Rattle.repair_cli.specs.declared.status.Status.TheVariants.{Patched, Nothing, Sound, Usage, ProgramRefused, SuiteRefused, ReadFault, WriteFault, NoMemory}
 
@@ -39,9 +40,9 @@ HoldsProgram held name bytes program = IsContent held name bytes × IsProgram by
 abbrev pub HoldsSomeProgram : Held → List ℕ → Type 0
 HoldsSomeProgram held name = (bytes : List ℕ) × (program : List Outer) × HoldsProgram held name bytes program
 
--- the file of this name states no program
-abbrev pub HoldsNoProgram : Held → List ℕ → Type 0
-HoldsNoProgram held name = (bytes : List ℕ) × IsContent held name bytes × StatesNoProgram bytes
+-- the file of this name states no program, as this message tells
+abbrev pub HoldsNoProgram : Held → List ℕ → List ℕ → Type 0
+HoldsNoProgram held name text = (bytes : List ℕ) × IsContent held name bytes × Refuses name bytes text
 
 -- the file of this name states these tests
 abbrev pub HoldsSuite : Held → List ℕ → List Test → Type 0
@@ -71,7 +72,7 @@ LacksSuite source names text = HoldsSomeProgram source.held names.program × IsU
 abbrev pub Cause : Source → Status → List ℕ → Type 0
 Cause source Usage text = (names_in source.words ≡ None) × (text ≡ usage)
 Cause source ReadFault text = (names : Named source) × (LacksProgram source names text ⊎ LacksSuite source names text)
-Cause source ProgramRefused text = (names : Named source) × HoldsNoProgram source.held names.program × (text ≡ unsupported names.program)
+Cause source ProgramRefused text = (names : Named source) × HoldsNoProgram source.held names.program text
 Cause source SuiteRefused text = (names : Named source) × HoldsSomeProgram source.held names.program × HoldsNoSuite source.held names.suite × (text ≡ bad_suite names.suite)
 Cause source NoMemory text = text ≡ no_memory
 Cause source WriteFault text = ⊥

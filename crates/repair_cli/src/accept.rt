@@ -7,15 +7,25 @@ ghost use Rattle.repair_cli.specs.Faults.{RefusesProgram};
 use c_lex::{LexFault, lex};
 use c_parse::{ParseFault, parse};
 use c_types::{TypeFault, Typed, check};
+use plain_form::is_plain;
 use schemas::{LocFault, locations};
 use std::alloc::Global;
+use thiserror::Error;
 
 /// Why a source gives no program.
-#[derive(Clone, Copy, Debug, PartialEq, Eq, Drop)]
+#[derive(Clone, Copy, Debug, PartialEq, Eq, Error)]
 pub(crate) enum ProgramFault {
-    /// It isn't of the supported form.
+    /// It has no tokens.
+    #[error("no tokens: {0}")]
+    Lex(LexFault),
+    /// Its tokens are no program of the language.
+    #[error("no program: {0}")]
+    Parse(ParseFault),
+    /// It can't be run yet.
+    #[error("unsupported")]
     Unsupported,
-    /// There was no memory for its tree.
+    /// There was no memory to judge its tree.
+    #[error("out of memory")]
     NoMemory,
 }
 
@@ -27,14 +37,15 @@ pub(crate) fn accept(alloc: Global, bytes: &[u8]) -> Result<Typed, ProgramFault>
     let end = bytes.len() as u32;
     let tokens = match lex(alloc, bytes) {
         Ok(tokens) => tokens,
-        Err(LexFault::Unsupported) => return Err(ProgramFault::Unsupported),
-        Err(LexFault::NoMemory) => return Err(ProgramFault::NoMemory),
+        Err(fault) => return Err(ProgramFault::Lex(fault)),
     };
     let tree = match parse(alloc, &tokens, end) {
         Ok(tree) => tree,
-        Err(ParseFault::Unsupported) => return Err(ProgramFault::Unsupported),
-        Err(ParseFault::NoMemory) => return Err(ProgramFault::NoMemory),
+        Err(fault) => return Err(ProgramFault::Parse(fault)),
     };
+    if !is_plain(&tree) {
+        return Err(ProgramFault::Unsupported);
+    }
     let program = match check(alloc, tree, end) {
         Ok(program) => program,
         Err(TypeFault::Unsupported) => return Err(ProgramFault::Unsupported),

@@ -3,8 +3,10 @@
 
 mod accept;
 mod answer;
+mod fault;
 mod gather;
 mod laws;
+mod position;
 mod refusal;
 mod report;
 mod run;

@@ -1,6 +1,7 @@
 //! Writes the answer, or the message that tells why there is none.
-ghost use Rattle.std.specs.Prelude.{◌≡◌, ◌≤◌, ◌++◌, length, MatchResult, IsOk};
+ghost use Rattle.std.specs.Prelude.{◌≡◌, ◌+◌, ◌≤◌, ◌++◌, length, MatchResult, IsOk};
 ghost use Rattle.repair_cli.specs.Ends.{status_of_answer};
+ghost use Rattle.repair_cli.specs.Message.{place_text, number_text};
 ghost use Rattle.repair_cli.specs.Parts.{Reports, Writes};
 ghost use Rattle.repair_cli.specs.Refusal.{status_of, message_of};
 ghost use Rattle.repair_cli.specs.Sinks.{told, Appends, Breaks};
@@ -9,6 +10,7 @@ use crate::answer::{Answer, Reply};
 use crate::refusal::{Message, Refusal};
 use crate::status::Status;
 use fx_io::{Failed, Sink, write_whole};
+use itoa::Buffer;
 
 /// Writes the text of the answer, or where that fails the message of the failure, and answers the status.
 pub(crate) fn report<O: Sink, E: Sink>(reply: &Reply, out: &mut O, err: &mut E) -> Status
@@ -39,14 +41,60 @@ pub(crate) fn refuse<E: Sink>(refusal: Refusal, err: &mut E) -> Status
 // Writes the pieces of the message, one behind the other.
 fn write_message<S: Sink>(sink: &mut S, message: Message) -> Result<(), Failed>
     ensures faults { S.faults sink.old ≤ S.faults sink.new }
-    ensures written { MatchResult result
-        (λ _. Appends (told (S.faults sink.old) (S.faults sink.new) (S.written sink.old) (S.written sink.new)) (message.entry.before.now ++ message.entry.name.now ++ message.entry.after.now))
-        (λ _. Breaks (told (S.faults sink.old) (S.faults sink.new) (S.written sink.old) (S.written sink.new)) (message.entry.before.now ++ message.entry.name.now ++ message.entry.after.now)) }
-    ensures room { length (message.entry.before.now ++ message.entry.name.now ++ message.entry.after.now) ≤ S.room sink.old → IsOk result }
+    ensures written { let wrote = told (S.faults sink.old) (S.faults sink.new) (S.written sink.old) (S.written sink.new) in
+        let text = message.entry.before.now ++ message.entry.name.now ++ place_text message.entry.at ++ message.entry.after.now in
+        MatchResult result (λ _. Appends wrote text) (λ _. Breaks wrote text) }
+    ensures room { let text = message.entry.before.now ++ message.entry.name.now ++ place_text message.entry.at ++ message.entry.after.now in
+        length text ≤ S.room sink.old → IsOk result }
 {
-    write_whole(sink, message.before)?;
-    write_whole(sink, message.name)?;
+    write_both(sink, message.before, message.name)?;
+    write_place(sink, message.at)?;
     write_whole(sink, message.after)?;
+    Ok(())
+}
+
+// Writes the line and the column between colons, if there are any.
+fn write_place<S: Sink>(sink: &mut S, at: Option<(u32, u32)>) -> Result<(), Failed>
+    ensures faults { S.faults sink.old ≤ S.faults sink.new }
+    ensures written { let wrote = told (S.faults sink.old) (S.faults sink.new) (S.written sink.old) (S.written sink.new) in
+        let text = place_text at in
+        MatchResult result (λ _. Appends wrote text) (λ _. Breaks wrote text) }
+    ensures room { length (place_text at) ≤ S.room sink.old →
+        IsOk result × (S.room sink.new + length (place_text at) ≡ S.room sink.old) }
+{
+    let Some((line, column)) = at else {
+        return Ok(());
+    };
+    write_number(sink, line)?;
+    write_number(sink, column)?;
+    write_whole(sink, b": ")?;
+    Ok(())
+}
+
+// Writes a colon, and the number behind it.
+fn write_number<S: Sink>(sink: &mut S, n: u32) -> Result<(), Failed>
+    ensures faults { S.faults sink.old ≤ S.faults sink.new }
+    ensures written { let wrote = told (S.faults sink.old) (S.faults sink.new) (S.written sink.old) (S.written sink.new) in
+        let text = number_text n in
+        MatchResult result (λ _. Appends wrote text) (λ _. Breaks wrote text) }
+    ensures room { length (number_text n) ≤ S.room sink.old →
+        IsOk result × (S.room sink.new + length (number_text n) ≡ S.room sink.old) }
+{
+    let mut buffer = Buffer::new();
+    write_both(sink, b":", buffer.format(n).as_bytes())
+}
+
+// Writes the one piece, and the other behind it.
+fn write_both<S: Sink>(sink: &mut S, first: &[u8], second: &[u8]) -> Result<(), Failed>
+    ensures faults { S.faults sink.old ≤ S.faults sink.new }
+    ensures written { let wrote = told (S.faults sink.old) (S.faults sink.new) (S.written sink.old) (S.written sink.new) in
+        let text = first.now ++ second.now in
+        MatchResult result (λ _. Appends wrote text) (λ _. Breaks wrote text) }
+    ensures room { length (first.now ++ second.now) ≤ S.room sink.old →
+        IsOk result × (S.room sink.new + length (first.now ++ second.now) ≡ S.room sink.old) }
+{
+    write_whole(sink, first)?;
+    write_whole(sink, second)?;
     Ok(())
 }
 

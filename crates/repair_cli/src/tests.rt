@@ -1,5 +1,8 @@
 //! Whole calls over fakes: how each ends, and what it leaves on both sinks.
 
+mod faults;
+mod refusals;
+
 use crate::run_alone;
 use fx_io::{MemFiles, MemSink};
 use std::alloc::{AllocError, Global};
@@ -175,13 +178,20 @@ const LINES: [Row; 14] = [
     ("repair a s.json", NEXT, PASSED, 6, "", NO_A),
     ("repair p.c b", NEXT, PASSED, 6, "", "f1x: cannot read b\n"),
     ("repair a b", NEXT, PASSED, 6, "", NO_A),
-    ("repair p.c b", "", PASSED, 4, "", REFUSED),
+    (
+        "repair p.c b",
+        "",
+        PASSED,
+        4,
+        "",
+        "p.c:1:1: unexpected token\n",
+    ),
     ("repair p.c p.c", NEXT, PASSED, 5, "", "p.c: bad suite\n"),
 ];
 
 /// Programs and suites.
 const FILES: [Row; 17] = [
-    (LINE, "@", "[", 4, "", REFUSED),
+    (LINE, "@", "[", 4, "", "p.c:1:1: stray byte\n"),
     (LINE, UNDECLARED, PASSED, 4, "", REFUSED),
     (LINE, NEXT, "", 5, "", BAD_SUITE),
     (LINE, NEXT, "[", 5, "", BAD_SUITE),
@@ -193,7 +203,14 @@ const FILES: [Row; 17] = [
         "",
         REFUSED,
     ),
-    (LINE, "int main(void) { putchar(", PASSED, 4, "", REFUSED),
+    (
+        LINE,
+        "int main(void) { putchar(",
+        PASSED,
+        4,
+        "",
+        "p.c:1:26: unexpected token\n",
+    ),
     (LINE, IDLE, "{}", 5, "", BAD_SUITE),
     (LINE, IDLE, r#"{"tests":[{"outp"#, 5, "", BAD_SUITE),
     (
@@ -280,7 +297,7 @@ fn judges_lengths(rt: HostRuntime) -> Result<(), Fail> {
     for (program_length, suite_length, number, out, err) in [
         (65_536, 4_194_304, 2, "nothing to repair\n", ""),
         (65_536, 4_194_305, 5, "", BAD_SUITE),
-        (65_537, 100, 4, "", REFUSED),
+        (65_537, 100, 4, "", "p.c: too long\n"),
     ] {
         let program = padded(rt.alloc(), NEXT, program_length)?;
         let suite = padded(rt.alloc(), PASSED, suite_length)?;
@@ -358,12 +375,18 @@ fn nested(
     Ok(bytes)
 }
 
-/// Sources at a limit and beyond it: the repeated pieces, how often, and how the call must end.
-const SOURCES: [(&str, &str, &str, usize, u8); 4] = [
-    ("if (a < a) {", "a = 1;", "}", 31, 2),
-    ("if (a < a) {", "a = a + 1;", "}", 31, 4),
-    ("a = 1;", "", "", 2048, 2),
-    ("a = 1;", "putchar(1);", "", 2048, 4),
+/// Sources at a limit and beyond it: the repeated pieces, how often, and the message, where there is one.
+const SOURCES: [(&str, &str, &str, usize, &str); 4] = [
+    ("if (a < a) {", "a = 1;", "}", 31, ""),
+    (
+        "if (a < a) {",
+        "a = a + 1;",
+        "}",
+        31,
+        "p.c:1:403: nested too deep\n",
+    ),
+    ("a = 1;", "", "", 2048, ""),
+    ("a = 1;", "putchar(1);", "", 2048, REFUSED),
 ];
 
 /// Suites at a limit and beyond it: the head, the piece, how often, the tail, and how the call must end.
@@ -398,18 +421,13 @@ const SUITES: [(&str, &str, usize, &str, u8); 4] = [
     ),
 ];
 
-// How a call ends that accepts all, or refuses the file of this status.
+// How a call ends that accepts both files, or refuses the suite.
 fn ends(number: u8) -> Want<'static> {
     match number {
         2 => Want {
             number,
             out: SOUND,
             err: "",
-        },
-        4 => Want {
-            number,
-            out: "",
-            err: REFUSED,
         },
         _ => Want {
             number,
@@ -419,9 +437,21 @@ fn ends(number: u8) -> Want<'static> {
     }
 }
 
+// How a call ends that accepts both files, or refuses the program with this message.
+fn judged(message: &'static str) -> Want<'static> {
+    if message.is_empty() {
+        return ends(2);
+    }
+    Want {
+        number: 4,
+        out: "",
+        err: message,
+    }
+}
+
 #[test]
 fn keeps_its_limits(rt: HostRuntime) -> Result<(), Fail> {
-    for (opening, middle, closing, count, number) in SOURCES {
+    for (opening, middle, closing, count, message) in SOURCES {
         let program = nested(
             rt.alloc(),
             "int main(void) { int a; ",
@@ -433,7 +463,7 @@ fn keeps_its_limits(rt: HostRuntime) -> Result<(), Fail> {
             program: &program,
             suite: NO_TESTS.as_bytes(),
         };
-        call(&rt, rt.alloc(), LINE, bytes, SURE, ends(number))?;
+        call(&rt, rt.alloc(), LINE, bytes, SURE, judged(message))?;
     }
     for (head, piece, count, tail, number) in SUITES {
         let suite = nested(rt.alloc(), head, (piece, "", ""), tail, count)?;

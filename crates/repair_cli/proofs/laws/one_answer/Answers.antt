@@ -1,9 +1,15 @@
-use Rattle.repair_cli.proofs.Accepting.{one_program}
+use Rattle.repair_cli.proofs.Accepting.{one_program, one_refusal, never_both}
 use Rattle.repair_cli.proofs.OneAnswer.{one_right, one_reply}
 use Rattle.repair_cli.proofs.laws.one_answer.Goals as goal
 
 pub returns-clause-program : goal.returns-clause-program
 returns-clause-program c = one_program
+
+pub returns-clause-refusal : goal.returns-clause-refusal
+returns-clause-refusal c = one_refusal
+
+pub returns-clause-either : goal.returns-clause-either
+returns-clause-either c = never_both
 
 pub returns-clause-answer : goal.returns-clause-answer
 returns-clause-answer c = one_right

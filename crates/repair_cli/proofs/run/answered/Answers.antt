@@ -5,7 +5,7 @@ use Rattle.repair_cli.specs.Reply.{IsText}
 use Rattle.repair_cli.proofs.run.answered.Goals as goal
 
 pub settled-requires-clause-few : goal.settled-requires-clause-few
-settled-requires-clause-few g c = c.in-Ok.ensures.gathered.0.1.1.few
+settled-requires-clause-few g c = c.in-Ok.ensures.gathered.0.1.1.runnable.few
 
 pub returns-in-Ok-settled-clause-answered : goal.returns-in-Ok-settled-clause-answered
 returns-in-Ok-settled-clause-answered g c =

@@ -1,0 +1,140 @@
+//! Sources that are refused, with the message of each first fault, and sources that are read as the plain form.
+
+use super::{Bytes, LINE, PASSED, SURE, Want, call};
+use std::alloc::Global;
+use std::process::Abort;
+use std::test::Fail;
+
+// A call on this program, and how it must end.
+fn ends(rt: &impl Abort, alloc: Global, program: &str, want: Want) -> Result<(), Fail> {
+    let bytes = Bytes {
+        program: program.as_bytes(),
+        suite: PASSED.as_bytes(),
+    };
+    call(rt, alloc, LINE, bytes, SURE, want)
+}
+
+// The program is refused with this message.
+fn refuses(rt: &impl Abort, alloc: Global, program: &str, message: &str) -> Result<(), Fail> {
+    let want = Want {
+        number: 4,
+        out: "",
+        err: message,
+    };
+    ends(rt, alloc, program, want)
+}
+
+#[test]
+fn tells_the_first_fault_of_a_text(rt: HostRuntime) -> Result<(), Fail> {
+    let table = [
+        ("int main(void){ return @; }", "p.c:1:24: stray byte\n"),
+        ("int main(void){} /* x", "p.c:1:18: comment is not closed\n"),
+        (
+            "int main(void){ putchar('a); }",
+            "p.c:1:25: literal is not closed\n",
+        ),
+        ("int main(void) { return 08; }", "p.c:1:25: bad constant\n"),
+        (
+            "int main(void) { return 2147483648; }",
+            "p.c:1:25: constant too large\n",
+        ),
+        (
+            "int main(void) { return 0; } #define N 1",
+            "p.c:1:30: directive after the first declaration\n",
+        ),
+        ("#pragma once", "p.c:1:1: unknown directive\n"),
+        ("#define N 1\n#define N 2", "p.c:2:9: macro defined twice\n"),
+        ("int main(void) <% %>", "p.c:1:16: digraph\n"),
+        (
+            "int main(void) { return 0; } /* ??= */",
+            "p.c:1:33: trigraph\n",
+        ),
+        ("// \\\n", "p.c:1:4: line splice\n"),
+        (
+            "int main(void) { return 1 }",
+            "p.c:1:27: unexpected token\n",
+        ),
+        ("", "p.c:1:1: unexpected token\n"),
+        (
+            "int main(void)\n{\n    return 1\n}\n",
+            "p.c:4:1: unexpected token\n",
+        ),
+        ("int main(void) {\n", "p.c:2:1: unexpected token\n"),
+        ("\n\n  ?", "p.c:3:3: unexpected token\n"),
+    ];
+    for (program, message) in table {
+        refuses(&rt, rt.alloc(), program, message)?;
+    }
+    Ok(())
+}
+
+#[test]
+fn tells_what_cannot_be_run_yet(rt: HostRuntime) -> Result<(), Fail> {
+    let table = [
+        "int main(void) { int a, b; }",
+        "int main(void) { int a = 1; }",
+        "int main(void) { char a; }",
+        "int main(void) { int a; a = EOF; }",
+        "#define N -1\nint main(void) { return N; }",
+        "int main(void) { return '\\377'; }",
+        "int main(void) { if (1 < 2) ; }",
+        "int main(void) { if (1) { } }",
+        "int main(void) { return 1 + 2 + 3; }",
+        "int main(void) { return; }",
+        "int main(void) { { } }",
+        "int a; int main(void) { }",
+        "void main(void) { }",
+        "int f(void) { return 0; }",
+        "int main(void);",
+        "int main(void) { printf(\"a\"); }",
+    ];
+    for program in table {
+        refuses(&rt, rt.alloc(), program, "p.c: unsupported\n")?;
+    }
+    Ok(())
+}
+
+#[test]
+fn reads_other_spellings_of_the_plain_form(rt: HostRuntime) -> Result<(), Fail> {
+    let table = [
+        "int main() { putchar(getchar() + 1); return 0; }",
+        "int main(void) { putchar(getchar() + 0x1); return 00; }",
+        "int main(void) { putchar((getchar()) + (1)); return (0); }",
+        "#define N 1\nint main(void) { putchar(getchar() + N); return 0; }",
+        "#include <stdlib.h>\n# define N (1)\nint main(void) { putchar(getchar() + N); return 0; }",
+        "int main(void) { putchar(getchar() + '\\1'); return '\\0'; }",
+        "/* next */ int main(void) { // a line\n putchar /* of */ (getchar() + 1); return 0; }",
+    ];
+    for program in table {
+        let want = Want {
+            number: 2,
+            out: "nothing to repair\n",
+            err: "",
+        };
+        ends(&rt, rt.alloc(), program, want)?;
+    }
+    Ok(())
+}
+
+#[test]
+fn repairs_among_comments_and_parentheses(rt: HostRuntime) -> Result<(), Fail> {
+    let table = [
+        (
+            "int main() { int a; a = getchar(); if (((a)) < 'B' /* small */) { putchar(a + 1); } }",
+            "int main() { int a; a = getchar(); if ((a != 'B') /* small */) { putchar(a + 1); } }",
+        ),
+        (
+            "#define N 0\nint main() { int a; a = getchar(); if ((a == N)) { putchar(a + 1); } }",
+            "#define N 0\nint main() { int a; a = getchar(); if ((a != N)) { putchar(a + 1); } }",
+        ),
+    ];
+    for (program, repaired) in table {
+        let want = Want {
+            number: 0,
+            out: repaired,
+            err: "",
+        };
+        ends(&rt, rt.alloc(), program, want)?;
+    }
+    Ok(())
+}
