@@ -7,7 +7,7 @@ use c_lex::{Keyword, Punct, TokenKind};
 use c_tree::{BinOp, Ty, UnOp};
 
 /// What a token is to the grammar, without its text.
-#[derive(Clone, Copy)]
+#[derive(Clone, Copy, Debug, PartialEq, Eq)]
 pub enum Lead {
     Name,
     /// A number, a character constant or a macro.
@@ -130,3 +130,6 @@ fn punct_lead(punct: Punct) -> Lead
         Punct::OrOr => Lead::Binary(BinOp::Either),
     }
 }
+
+#[cfg(test)]
+mod tests;
