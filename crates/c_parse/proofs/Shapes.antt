@@ -11,7 +11,7 @@ use Rattle.c_tree.specs.declared.stmt.StmtNode.TheVariants.{Block}
 use Rattle.c_tree.specs.declared.stmt.Item.{Item}
 use Rattle.c_tree.specs.declared.stmt.Item.TheVariants.{Vars, Stmt'}
 use Rattle.c_tree.specs.declared.stmt.Item.TheBlock.{Row_of-Item, more_of-Item, end_of-Item, items-the_row-Item, items_hidden-the_row-Item-0, hidden-the_row-Item-0}
-use Rattle.c_tree.specs.Tree.{Body, call, choice, block, done}
+use Rattle.c_tree.specs.Tree.{call, choice, block, done}
 use Rattle.c_tree.specs.Views.{tree, node_tree, args_tree, with_arg, args_of, node_code, items_code, with_item, body_of}
 use Rattle.c_tree.specs.Locations.{span_of}
 use Rattle.c_grammar.specs.Grammar.{over, chosen, args}
@@ -37,7 +37,8 @@ pub span_of-tree : (e : Expr) → span_of (tree e) ≡ e.span
 span_of-tree e = span_of-node e.node e.span
 
 -- a conditional expression of these parts
-pub choice-over : (a b c t u v : Expr) (s : Span) → a ≡ t → b ≡ u → c ≡ v → s ≡ over t.span v.span → choice (tree a) (tree b) (tree c) s ≡ chosen (tree t) (tree u) (tree v)
+pub choice-over : (a b c t u v : Expr) (s : Span) → a ≡ t → b ≡ u → c ≡ v → s ≡ over t.span v.span
+    → choice (tree a) (tree b) (tree c) s ≡ chosen (tree t) (tree u) (tree v)
 choice-over a b c t u v s p q w e =
     ap (λ x. choice (tree x) (tree b) (tree c) s) p ∙ ap (λ x. choice (tree t) (tree x) (tree c) s) q ∙ ap (λ x. choice (tree t) (tree u) (tree x) s) w
     ∙ ap (choice (tree t) (tree u) (tree v)) (e ∙ ap (λ o. over o v.span) (sym (span_of-tree t)) ∙ ap (over (span_of (tree t))) (sym (span_of-tree v)))

@@ -22,38 +22,70 @@ does-under (suc r) a = refl
 pub under-suc : (r : ℕ) (a : Tokens) → 0 < r → under r a ≡ statement (under (r - 1)) (r - 1) a
 under-suc r a some = let e : r ≡ suc (r - 1) = omega arith in ap (λ n. under n a) e ∙ does-under (r - 1) a
 
--- behind the brace of a block
-abbrev after_brace : ℕ → ℕ → Reading Span → Reading Code
-after_brace r q o = and_then o (λ s m b. and_then (items (under q) m b) (λ x n c. and_then (expected is_close_brace r c) (λ e q d. found (tree.block x (over s e)) q d)))
+-- ---- blocks
+
+-- behind the `}` of a block
+abbrev braced : Span → Body → Span → Reader Code
+braced s x e q d = found (tree.block x (over s e)) q d
 
 -- behind its items
-abbrev after_items : ℕ → Span → Reading Body → Reading Code
-after_items r s o = and_then o (λ x n c. and_then (expected is_close_brace r c) (λ e q d. found (tree.block x (over s e)) q d))
+abbrev itemised : ℕ → Span → Body → Reader Code
+itemised r s x n c = and_then (expected is_close_brace r c) (braced s x)
+
+-- behind its `{`
+abbrev opening : ℕ → Span → Reader Code
+opening r s m b = and_then (items (under r) m b) (itemised r s)
 
 -- a block whose items aren't read
-pub block_fails : (r : ℕ) (a : Tokens) (s : Span) (m : ℕ) (b : Tokens) (e : Stop) (c : Tokens) → opened r a ≡ found s m b → items (under r) m b ≡ stopped e c → block (under r) r a ≡ stopped e c
-block_fails r a s m b e c h k = ap (after_brace r r) h ∙ ap (after_items r s) k ∙ stops e c (λ x n c. and_then (expected is_close_brace r c) (λ e q d. found (tree.block x (over s e)) q d))
+pub block_fails : {s : Span} {m : ℕ} {b : Tokens} (r : ℕ) (a : Tokens) (e : Stop) (c : Tokens) → opened r a ≡ found s m b
+    → items (under r) m b ≡ stopped e c → block (under r) r a ≡ stopped e c
+block_fails {s} r a e c h k = ap (λ o. and_then o (opening r)) h ∙ ap (λ o. and_then o (itemised r s)) k ∙ stops e c (itemised r s)
 
 -- a block without its `}`
-pub block_unclosed : (r : ℕ) (a : Tokens) (s : Span) (m : ℕ) (b : Tokens) (x : Body) (n : ℕ) (c : Tokens) (e : Stop) (d : Tokens) → opened r a ≡ found s m b → items (under r) m b ≡ found x n c
+pub block_unclosed : {s : Span} {m n : ℕ} {b c : Tokens} {x : Body} (r : ℕ) (a : Tokens) (e : Stop) (d : Tokens) → opened r a ≡ found s m b
+    → items (under r) m b ≡ found x n c
     → expected is_close_brace r c ≡ stopped e d → block (under r) r a ≡ stopped e d
-block_unclosed r a s m b x n c e d h k l =
-    ap (after_brace r r) h ∙ ap (after_items r s) k ∙ ap (λ o. and_then o (λ e q d. found (tree.block x (over s e)) q d)) l ∙ stops e d (λ e q d. found (tree.block x (over s e)) q d)
+block_unclosed {s} {x = x} r a e d h k l =
+    ap (λ o. and_then o (opening r)) h ∙ ap (λ o. and_then o (itemised r s)) k ∙ ap (λ o. and_then o (braced s x)) l ∙ stops e d (braced s x)
 
 -- a block
-pub block_found : (r : ℕ) (a : Tokens) (s : Span) (m : ℕ) (b : Tokens) (x : Body) (n : ℕ) (c : Tokens) (e : Span) (q : ℕ) (d : Tokens) → opened r a ≡ found s m b → items (under r) m b ≡ found x n c
-    → expected is_close_brace r c ≡ found e q d → block (under r) r a ≡ found (tree.block x (over s e)) q d
-block_found r a s m b x n c e q d h k l = ap (after_brace r r) h ∙ ap (after_items r s) k ∙ ap (λ o. and_then o (λ e q d. found (tree.block x (over s e)) q d)) l
+pub block_found : {s e : Span} {m n q : ℕ} {b c d : Tokens} {x : Body} (r : ℕ) (a : Tokens) → opened r a ≡ found s m b → items (under r) m b ≡ found x n c
+    → expected is_close_brace r c ≡ found e q d
+    → block (under r) r a ≡ found (tree.block x (over s e)) q d
+block_found {s} {x = x} r a h k l = ap (λ o. and_then o (opening r)) h ∙ ap (λ o. and_then o (itemised r s)) k ∙ ap (λ o. and_then o (braced s x)) l
+
+-- ---- `if`
+
+-- behind the second arm
+abbrev second : ℕ → Span → Tree → Code → Code → Reader Code
+second r s t y z q d = found (tree.if_else t y z (over s (code_span z))) r d
+
+-- behind the `else`
+abbrev other : ℕ → Span → Tree → Code → Span → Reader Code
+other r s t y e n c = and_then (under r c) (second r s t y)
+
+-- behind the first arm
+abbrev first : ℕ → Span → Tree → Code → Reader Code
+first r s t y q d = otherwise_by (under r) r (is_else (front d)) s t y q d
+
+-- behind the test
+abbrev test : ℕ → Span → Tree → Reader Code
+test r s t n c = and_then (under r c) (first r s t)
+
+-- behind the `if`
+abbrev choice : ℕ → Span → Reader Code
+choice r s m b = and_then (tested m b) (test r s)
 
 -- an `if` whose second arm isn't read
-pub branch_fails : (r : ℕ) (a : Tokens) (s : Span) (m : ℕ) (b : Tokens) (t : Tree) (n : ℕ) (c : Tokens) (y : Code) (q : ℕ) (d : Tokens) (v : Span) (i : ℕ) (z : Tokens) (e : Stop) (w : Tokens) → opened r a ≡ found s m b
-    → tested m b ≡ found t n c → under r c ≡ found y q d → is_else (front d) ≡ true → taken q d ≡ found v i z → under r z ≡ stopped e w → branch (under r) r a ≡ stopped e w
-branch_fails r a s m b t n c y q d v i z e w h1 h2 h3 h4 h5 h6 =
-    ap (λ o. and_then o (λ s m b. and_then (tested m b) (λ t n c. and_then (under r c) (λ y q d. otherwise_by (under r) r (is_else (front d)) s t y q d)))) h1
-    ∙ ap (λ o. and_then o (λ t n c. and_then (under r c) (λ y q d. otherwise_by (under r) r (is_else (front d)) s t y q d))) h2
-    ∙ ap (λ o. and_then o (λ y q d. otherwise_by (under r) r (is_else (front d)) s t y q d)) h3 ∙ ap (λ l. otherwise_by (under r) r l s t y q d) h4
-    ∙ ap (λ o. and_then o (λ e n c. and_then (under r c) (λ z q d. found (tree.if_else t y z (over s (code_span z))) r d))) h5
-    ∙ ap (λ o. and_then o (λ z q d. found (tree.if_else t y z (over s (code_span z))) r d)) h6 ∙ stops e w (λ z q d. found (tree.if_else t y z (over s (code_span z))) r d)
+pub branch_fails : {s v : Span} {m n q i : ℕ} {b c d z : Tokens} {t : Tree} {y : Code} (r : ℕ) (a : Tokens) (e : Stop) (w : Tokens)
+    → opened r a ≡ found s m b → tested m b ≡ found t n c → under r c ≡ found y q d
+    → is_else (front d) ≡ true → taken q d ≡ found v i z → under r z ≡ stopped e w → branch (under r) r a ≡ stopped e w
+branch_fails {s} {q = q} {d = d} {t = t} {y = y} r a e w h1 h2 h3 h4 h5 h6 =
+    ap (λ o. and_then o (choice r)) h1 ∙ ap (λ o. and_then o (test r s)) h2 ∙ ap (λ o. and_then o (first r s t)) h3
+    ∙ ap (λ l. otherwise_by (under r) r l s t y q d) h4
+    ∙ ap (λ o. and_then o (other r s t y)) h5 ∙ ap (λ o. and_then o (second r s t y)) h6 ∙ stops e w (second r s t y)
+
+-- ---- the body of a function
 
 -- behind the `}` of a function's body
 abbrev shut : Body → Span → Reader (Body × Span)
@@ -64,46 +96,54 @@ abbrev closed : ℕ → Body → Reader (Body × Span)
 closed r x n c = and_then (expected is_close_brace r c) (shut x)
 
 -- the steps of a function's body
-abbrev pub body_steps : ℕ → Tokens → Reading (Body × Span)
+abbrev body_steps : ℕ → Tokens → Reading (Body × Span)
 body_steps r a = and_then (entered is_open_brace r a) (λ o m b. and_then (items (under r) m b) (closed r))
 
-brace_steps : (z : Bool) (r : ℕ) (a : Tokens) → and_then (entered_by z r a) (λ o m b. and_then (items (does m) m b) (closed r)) ≡ and_then (entered_by z r a) (λ o m b. and_then (items (under r) m b) (closed r))
+brace_steps : (z : Bool) (r : ℕ) (a : Tokens)
+    → and_then (entered_by z r a) (λ o m b. and_then (items (does m) m b) (closed r)) ≡ and_then (entered_by z r a)
+    (λ o m b. and_then (items (under r) m b) (closed r))
 brace_steps true zero a = refl
 brace_steps true (suc r) [] = refl
 brace_steps true (suc r) ((k, s) ∷ a) = refl
 brace_steps false r a = refl
 
-pub body-steps : (r : ℕ) (a : Tokens) → body r a ≡ body_steps r a
+body-steps : (r : ℕ) (a : Tokens) → body r a ≡ body_steps r a
 body-steps r a = brace_steps (is_open_brace (front a)) r a
 
--- behind the items of a body
-abbrev after_body : ℕ → Reading Body → Reading (Body × Span)
-after_body r o = and_then o (closed r)
+-- behind its `{`
+abbrev unfolded : ℕ → Span → Reader (Body × Span)
+unfolded r s m b = and_then (items (under r) m b) (closed r)
 
 -- a body whose items aren't read
-pub body_fails : (r : ℕ) (a : Tokens) (s : Span) (m : ℕ) (b : Tokens) (e : Stop) (c : Tokens) → entered is_open_brace r a ≡ found s m b → items (under r) m b ≡ stopped e c → body r a ≡ stopped e c
-body_fails r a s m b e c h k = body-steps r a ∙ ap (λ o. and_then o (λ s m b. after_body r (items (under r) m b))) h ∙ ap (after_body r) k ∙ stops e c (closed r)
+pub body_fails : {s : Span} {m : ℕ} {b : Tokens} (r : ℕ) (a : Tokens) (e : Stop) (c : Tokens) → entered is_open_brace r a ≡ found s m b
+    → items (under r) m b ≡ stopped e c → body r a ≡ stopped e c
+body_fails r a e c h k = body-steps r a ∙ ap (λ o. and_then o (unfolded r)) h ∙ ap (λ o. and_then o (closed r)) k ∙ stops e c (closed r)
 
 -- a body without its `}`
-pub body_unclosed : (r : ℕ) (a : Tokens) (s : Span) (m : ℕ) (b : Tokens) (x : Body) (n : ℕ) (c : Tokens) (e : Stop) (d : Tokens) → entered is_open_brace r a ≡ found s m b → items (under r) m b ≡ found x n c
+pub body_unclosed : {s : Span} {m n : ℕ} {b c : Tokens} {x : Body} (r : ℕ) (a : Tokens) (e : Stop) (d : Tokens) → entered is_open_brace r a ≡ found s m b
+    → items (under r) m b ≡ found x n c
     → expected is_close_brace r c ≡ stopped e d → body r a ≡ stopped e d
-body_unclosed r a s m b x n c e d h k l =
-    body-steps r a ∙ ap (λ o. and_then o (λ s m b. after_body r (items (under r) m b))) h ∙ ap (after_body r) k ∙ ap (λ o. and_then o (shut x)) l ∙ stops e d (shut x)
+body_unclosed {x = x} r a e d h k l =
+    body-steps r a ∙ ap (λ o. and_then o (unfolded r)) h ∙ ap (λ o. and_then o (closed r)) k ∙ ap (λ o. and_then o (shut x)) l
+    ∙ stops e d (shut x)
 
 -- a body
-pub body_found : (r : ℕ) (a : Tokens) (s : Span) (m : ℕ) (b : Tokens) (x : Body) (n : ℕ) (c : Tokens) (e : Span) (q : ℕ) (d : Tokens) → entered is_open_brace r a ≡ found s m b → items (under r) m b ≡ found x n c
-    → expected is_close_brace r c ≡ found e q d → body r a ≡ found (x, e) q d
-body_found r a s m b x n c e q d h k l = body-steps r a ∙ ap (λ o. and_then o (λ s m b. after_body r (items (under r) m b))) h ∙ ap (after_body r) k ∙ ap (λ o. and_then o (shut x)) l
+pub body_found : {s e : Span} {m n q : ℕ} {b c d : Tokens} {x : Body} (r : ℕ) (a : Tokens) → entered is_open_brace r a ≡ found s m b
+    → items (under r) m b ≡ found x n c → expected is_close_brace r c ≡ found e q d
+    → body r a ≡ found (x, e) q d
+body_found {x = x} r a h k l = body-steps r a ∙ ap (λ o. and_then o (unfolded r)) h ∙ ap (λ o. and_then o (closed r)) k ∙ ap (λ o. and_then o (shut x)) l
+
+-- ---- verdicts
 
 -- the verdict, from what the descent comes to
-pub judge-found : (r : ℕ) (a : Tokens) (p : List Outer) (m : ℕ) (b : Tokens) → program r a ≡ found p m b → judge r a ≡ good p
+pub judge-found : {p : List Outer} {m : ℕ} {b : Tokens} (r : ℕ) (a : Tokens) → program r a ≡ found p m b → judge r a ≡ good p
 unfolding judge
-judge-found r a p m b e = ap verdict e
+judge-found r a e = ap verdict e
 
-pub judge-unexpected : (r : ℕ) (a b : Tokens) → program r a ≡ unexpected b → judge r a ≡ unexpected_at b
+pub judge-unexpected : {b : Tokens} (r : ℕ) (a : Tokens) → program r a ≡ unexpected b → judge r a ≡ unexpected_at b
 unfolding judge
-judge-unexpected r a b e = ap verdict e
+judge-unexpected r a e = ap verdict e
 
-pub judge-too_deep : (r : ℕ) (a b : Tokens) → program r a ≡ too_deep b → judge r a ≡ too_deep_at b
+pub judge-too_deep : {b : Tokens} (r : ℕ) (a : Tokens) → program r a ≡ too_deep b → judge r a ≡ too_deep_at b
 unfolding judge
-judge-too_deep r a b e = ap verdict e
+judge-too_deep r a e = ap verdict e

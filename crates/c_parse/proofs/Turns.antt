@@ -1,5 +1,5 @@
 -- Parts one after another: a turn of the descent is a turn of the loop that reads them.
-use Rattle.std.proofs.Common.{◌≡◌, ℕ, zero, suc, ◌+◌, ◌-◌, ◌<◌, ◌≤◌, Bool, true, false, Option, Some, None, List, [], ◌∷◌, ◌++◌, length, refl, sym, ap, ◌∙◌, append_assoc, arith}
+use Rattle.std.proofs.Common.{◌≡◌, ℕ, suc, ◌+◌, ◌-◌, ◌<◌, ◌≤◌, Bool, true, false, Option, Some, None, List, [], ◌∷◌, ◌++◌, length, refl, sym, ap, ◌∙◌, append_assoc, arith}
 use Rattle.c_tree.specs.declared.place.Span.{Span}
 use Rattle.c_tree.specs.declared.expr.BinOp.{BinOp}
 use Rattle.c_tree.specs.Tree as tree
@@ -17,10 +17,10 @@ use Rattle.c_parse.specs.Gives.{stopped}
 
 -- ---- a recursion on a count of turns, beside a loop that counts up
 
-pub one_more : {X : Type 0} {x : X} (f : ℕ → X) (n at : ℕ) → at < n → x ≡ f (n - at) → x ≡ f (suc (n - (at + 1)))
+one_more : {X : Type 0} {x : X} (f : ℕ → X) (n at : ℕ) → at < n → x ≡ f (n - at) → x ≡ f (suc (n - (at + 1)))
 one_more f n at below e = let turn : n - at ≡ suc (n - (at + 1)) = omega arith in e ∙ ap f turn
 
-pub no_more : {X : Type 0} {x : X} (f : ℕ → X) (n at : ℕ) → n ≤ at → x ≡ f (n - at) → x ≡ f 0
+no_more : {X : Type 0} {x : X} (f : ℕ → X) (n at : ℕ) → n ≤ at → x ≡ f (n - at) → x ≡ f 0
 no_more f n at done e = let none : n - at ≡ 0 = omega arith in e ∙ ap f none
 
 pub deeper : {X : Type 0} (f : ℕ → X) (n : ℕ) → 0 < n → f n ≡ f (suc (n - 1))
@@ -34,72 +34,93 @@ stops NoMemory b f = refl
 
 -- ---- operators
 
-module _ (self : Part → Reader Read) where
-  -- an operator and what comes after it, in a turn
-  abbrev operating : ℕ → ℕ → Read → ℕ → Tokens → Option BinOp → Reading Read
-  operating n j t m b f = operated self j (operators self n j) f t m b
+-- Some operators with their operands are read: what all of them come to is what the others come to behind the expression t.
+pub record OperatorsRead (self : Part → Reader Read) (j : ℕ) (whole : Reading Read) (n : ℕ) (t : Read) (m : ℕ) (b : Tokens) : Type 0 where
+  pub so_far : whole ≡ operators self n j t m b
 
-  -- what comes after an operator
-  abbrev after_operator : ℕ → ℕ → BinOp → Read → Reading Span → Reading Read
-  after_operator n j f t o = and_then o (λ s v c. and_then (self (Binary j) v c) (λ u q d. operators self n j (joined f t.0 u.0, false) q d))
+module _ {self : Part → Reader Read} {j : ℕ} {whole : Reading Read} {t : Read} {m : ℕ} {b : Tokens}
+    (n at : ℕ) (more : at < n) (k : OperatorsRead self j whole (n - at) t m b) where
+  -- behind the operand of an operator
+  abbrev operand : BinOp → Read → Reader Read
+  operand f u q d = operators self (n - (at + 1)) j (joined f t.0 u.0, false) q d
 
-  -- what comes after its operand
-  abbrev after_operand : ℕ → ℕ → BinOp → Read → Reading Read → Reading Read
-  after_operand n j f t o = and_then o (λ u q d. operators self n j (joined f t.0 u.0, false) q d)
+  -- behind an operator
+  abbrev operator : BinOp → Span → Reader Read
+  operator f s p c = and_then (self (Binary j) p c) (operand f)
+
+  operator_turn : (o : Option BinOp) → operator_at (suc j) (front b) ≡ o → whole ≡ operated self j (operators self (n - (at + 1)) j) o t m b
+  operator_turn o h = one_more (λ n. operators self n j t m b) n at more k.so_far ∙ ap (λ o. operated self j (operators self (n - (at + 1)) j) o t m b) h
 
   -- no operator comes next
-  pub operator_absent : (whole : Reading Read) (n j : ℕ) (t : Read) (m : ℕ) (b : Tokens) → whole ≡ operators self (suc n) j t m b → operator_at (suc j) (front b) ≡ None → whole ≡ found t m b
-  operator_absent whole n j t m b w h = w ∙ ap (operating n j t m b) h
+  pub operator_absent : operator_at (suc j) (front b) ≡ None → whole ≡ found t m b
+  operator_absent h = operator_turn None h
 
   -- an operator that isn't opened
-  pub operator_fails : (whole : Reading Read) (n j : ℕ) (t : Read) (m : ℕ) (b : Tokens) (f : BinOp) (e : Stop) (c : Tokens) → whole ≡ operators self (suc n) j t m b → operator_at (suc j) (front b) ≡ Some f
-      → opened m b ≡ stopped e c → whole ≡ stopped e c
-  operator_fails whole n j t m b f e c w h k =
-      w ∙ ap (operating n j t m b) h ∙ ap (after_operator n j f t) k ∙ stops e c (λ s v c. and_then (self (Binary j) v c) (λ u q d. operators self n j (joined f t.0 u.0, false) q d))
+  pub operator_fails : (f : BinOp) (e : Stop) (c : Tokens) → operator_at (suc j) (front b) ≡ Some f → opened m b ≡ stopped e c → whole ≡ stopped e c
+  operator_fails f e c h o = operator_turn (Some f) h ∙ ap (λ o. and_then o (operator f)) o ∙ stops e c (operator f)
 
   -- an operand that isn't read
-  pub operand_fails : (whole : Reading Read) (n j : ℕ) (t : Read) (m : ℕ) (b : Tokens) (f : BinOp) (s : Span) (p : ℕ) (c : Tokens) (e : Stop) (d : Tokens) → whole ≡ operators self (suc n) j t m b
-      → operator_at (suc j) (front b) ≡ Some f → opened m b ≡ found s p c → self (Binary j) p c ≡ stopped e d → whole ≡ stopped e d
-  operand_fails whole n j t m b f s p c e d w h k v =
-      w ∙ ap (operating n j t m b) h ∙ ap (after_operator n j f t) k ∙ ap (after_operand n j f t) v ∙ stops e d (λ u q d. operators self n j (joined f t.0 u.0, false) q d)
+  pub operand_fails : {s : Span} {p : ℕ} {c : Tokens} (f : BinOp) (e : Stop) (d : Tokens) → operator_at (suc j) (front b) ≡ Some f
+      → opened m b ≡ found s p c → self (Binary j) p c ≡ stopped e d → whole ≡ stopped e d
+  operand_fails f e d h o v = operator_turn (Some f) h ∙ ap (λ o. and_then o (operator f)) o ∙ ap (λ o. and_then o (operand f)) v ∙ stops e d (operand f)
 
   -- an operator and its operand
-  pub operator_goes : (whole : Reading Read) (n j : ℕ) (t : Read) (m : ℕ) (b : Tokens) (f : BinOp) (s : Span) (p : ℕ) (c : Tokens) (u : Read) (q : ℕ) (d : Tokens) (z : Tree) → whole ≡ operators self (suc n) j t m b
-      → operator_at (suc j) (front b) ≡ Some f → opened m b ≡ found s p c → self (Binary j) p c ≡ found u q d → z ≡ joined f t.0 u.0 → whole ≡ operators self n j (z, false) q d
-  operator_goes whole n j t m b f s p c u q d z w h k v y =
-      w ∙ ap (operating n j t m b) h ∙ ap (after_operator n j f t) k ∙ ap (after_operand n j f t) v ∙ ap (λ z. operators self n j (z, false) q d) (sym y)
+  pub operator_goes : {s : Span} {p q : ℕ} {c d : Tokens} {u : Read} {z : Tree} (f : BinOp) → operator_at (suc j) (front b) ≡ Some f
+      → opened m b ≡ found s p c → self (Binary j) p c ≡ found u q d → z ≡ joined f t.0 u.0
+      → OperatorsRead self j whole (n - (at + 1)) (z, false) q d
+  operator_goes {q = q} {d = d} f h o v y = record {
+    so_far =
+        operator_turn (Some f) h ∙ ap (λ o. and_then o (operator f)) o ∙ ap (λ o. and_then o (operand f)) v
+        ∙ ap (λ z. operators self (n - (at + 1)) j (z, false) q d) (sym y);
+  }
 
-  -- a comma and what comes after it, in a turn
-  abbrev following : ℕ → Read → ℕ → Tokens → Bool → Reading Read
-  following n t m b z = comma_by self z (commas self n) t m b
+-- no turn is left
+pub operators_end : {self : Part → Reader Read} {j : ℕ} {whole : Reading Read} {t : Read} {m : ℕ} {b : Tokens} (n at : ℕ) → n ≤ at
+    → OperatorsRead self j whole (n - at) t m b → whole ≡ too_deep b
+operators_end {self} {j} {t = t} {m} {b} n at done k = no_more (λ n. operators self n j t m b) n at done k.so_far
 
-  -- what comes after a comma
-  abbrev after_comma : ℕ → Read → Reading Span → Reading Read
-  after_comma n t o = and_then o (λ s v c. and_then (self Assignment v c) (λ u q d. commas self n (followed t.0 u.0, false) q d))
+-- Some commas with their operands are read.
+pub record CommasRead (self : Part → Reader Read) (whole : Reading Read) (n : ℕ) (t : Read) (m : ℕ) (b : Tokens) : Type 0 where
+  pub so_far : whole ≡ commas self n t m b
 
-  -- what comes after its operand
-  abbrev after_followed : ℕ → Read → Reading Read → Reading Read
-  after_followed n t o = and_then o (λ u q d. commas self n (followed t.0 u.0, false) q d)
+module _ {self : Part → Reader Read} {whole : Reading Read} {t : Read} {m : ℕ} {b : Tokens}
+    (n at : ℕ) (more : at < n) (k : CommasRead self whole (n - at) t m b) where
+  -- behind the operand of a comma
+  abbrev right : Read → Reader Read
+  right u q d = commas self (n - (at + 1)) (followed t.0 u.0, false) q d
+
+  -- behind a comma
+  abbrev comma : Span → Reader Read
+  comma s p c = and_then (self Assignment p c) right
+
+  comma_turn : (z : Bool) → is_comma (front b) ≡ z → whole ≡ comma_by self z (commas self (n - (at + 1))) t m b
+  comma_turn z h = one_more (λ n. commas self n t m b) n at more k.so_far ∙ ap (λ z. comma_by self z (commas self (n - (at + 1))) t m b) h
 
   -- no comma comes next
-  pub comma_absent : (whole : Reading Read) (n : ℕ) (t : Read) (m : ℕ) (b : Tokens) → whole ≡ commas self (suc n) t m b → is_comma (front b) ≡ false → whole ≡ found t m b
-  comma_absent whole n t m b w h = w ∙ ap (following n t m b) h
+  pub comma_absent : is_comma (front b) ≡ false → whole ≡ found t m b
+  comma_absent h = comma_turn false h
 
   -- a comma that isn't opened
-  pub comma_unopened : (whole : Reading Read) (n : ℕ) (t : Read) (m : ℕ) (b : Tokens) (e : Stop) (c : Tokens) → whole ≡ commas self (suc n) t m b → is_comma (front b) ≡ true → opened m b ≡ stopped e c → whole ≡ stopped e c
-  comma_unopened whole n t m b e c w h k =
-      w ∙ ap (following n t m b) h ∙ ap (after_comma n t) k ∙ stops e c (λ s v c. and_then (self Assignment v c) (λ u q d. commas self n (followed t.0 u.0, false) q d))
+  pub comma_unopened : (e : Stop) (c : Tokens) → is_comma (front b) ≡ true → opened m b ≡ stopped e c → whole ≡ stopped e c
+  comma_unopened e c h o = comma_turn true h ∙ ap (λ o. and_then o comma) o ∙ stops e c comma
 
   -- an operand that isn't read
-  pub followed_fails : (whole : Reading Read) (n : ℕ) (t : Read) (m : ℕ) (b : Tokens) (s : Span) (p : ℕ) (c : Tokens) (e : Stop) (d : Tokens) → whole ≡ commas self (suc n) t m b → is_comma (front b) ≡ true
-      → opened m b ≡ found s p c → self Assignment p c ≡ stopped e d → whole ≡ stopped e d
-  followed_fails whole n t m b s p c e d w h k v =
-      w ∙ ap (following n t m b) h ∙ ap (after_comma n t) k ∙ ap (after_followed n t) v ∙ stops e d (λ u q d. commas self n (followed t.0 u.0, false) q d)
+  pub right_fails : {s : Span} {p : ℕ} {c : Tokens} (e : Stop) (d : Tokens) → is_comma (front b) ≡ true → opened m b ≡ found s p c
+      → self Assignment p c ≡ stopped e d → whole ≡ stopped e d
+  right_fails e d h o v = comma_turn true h ∙ ap (λ o. and_then o comma) o ∙ ap (λ o. and_then o right) v ∙ stops e d right
 
   -- a comma and its operand
-  pub followed_goes : (whole : Reading Read) (n : ℕ) (t : Read) (m : ℕ) (b : Tokens) (s : Span) (p : ℕ) (c : Tokens) (u : Read) (q : ℕ) (d : Tokens) (z : Tree) → whole ≡ commas self (suc n) t m b
-      → is_comma (front b) ≡ true → opened m b ≡ found s p c → self Assignment p c ≡ found u q d → z ≡ followed t.0 u.0 → whole ≡ commas self n (z, false) q d
-  followed_goes whole n t m b s p c u q d z w h k v y = w ∙ ap (following n t m b) h ∙ ap (after_comma n t) k ∙ ap (after_followed n t) v ∙ ap (λ z. commas self n (z, false) q d) (sym y)
+  pub right_goes : {s : Span} {p q : ℕ} {c d : Tokens} {u : Read} {z : Tree} → is_comma (front b) ≡ true → opened m b ≡ found s p c
+      → self Assignment p c ≡ found u q d → z ≡ followed t.0 u.0
+      → CommasRead self whole (n - (at + 1)) (z, false) q d
+  right_goes {q = q} {d = d} h o v y = record {
+    so_far = comma_turn true h ∙ ap (λ o. and_then o comma) o ∙ ap (λ o. and_then o right) v ∙ ap (λ z. commas self (n - (at + 1)) (z, false) q d) (sym y);
+  }
+
+-- no turn is left
+pub commas_end : {self : Part → Reader Read} {whole : Reading Read} {t : Read} {m : ℕ} {b : Tokens} (n at : ℕ) → n ≤ at
+    → CommasRead self whole (n - at) t m b → whole ≡ too_deep b
+commas_end {self} {t = t} {m} {b} n at done k = no_more (λ n. commas self n t m b) n at done k.so_far
 
 -- ---- lists with commas
 
@@ -113,60 +134,84 @@ ahead-ahead xs ys (found zs m b) = ap (λ z. found z m b) (sym (append_assoc xs 
 ahead-ahead xs ys (unexpected b) = refl
 ahead-ahead xs ys (too_deep b) = refl
 
-module _ {A : Type 0} (ends : Lead → Bool) (part : Tokens → Reading A) where
-  -- what comes after a part, in a turn
-  abbrev after : List A → ℕ → Reading A → Reading (List A)
-  after xs n o = ahead xs (and_then o (λ x m b. listed_by ends part (is_comma (front b)) (listed ends part n) x m b))
+ahead-stopped : {A : Type 0} (xs : List A) (e : Stop) (b : Tokens) → ahead xs (stopped e b) ≡ stopped e b
+ahead-stopped xs e b = stops e b (λ ys m c. found (xs ++ ys) m c)
 
-  -- behind a part and a comma
-  abbrev behind : List A → ℕ → A → Reading Span → Reading (List A)
-  behind xs n x o = ahead xs (and_then o (λ s m c. behind_comma ends part (ends (front c)) (listed ends part n) x m c))
+-- Some parts of a list are read: what the whole list comes to is them and what the other parts come to.
+pub record ListRead {A : Type 0} (ends : Lead → Bool) (part : Tokens → Reading A) (whole : Reading (List A)) (xs : List A) (n r : ℕ) (a : Tokens) : Type 0
+  where
+    pub so_far : whole ≡ ahead xs (listed ends part n r a)
 
-  -- before the first part
-  pub list_begins : (xs : List A) (n r : ℕ) (a : Tokens) → xs ≡ [] → n ≡ suc (length a) → all_listed ends part r a ≡ ahead xs (listed ends part n r a)
-  list_begins xs n r a p q = sym (ahead-none (all_listed ends part r a)) ∙ ap (λ n. ahead [] (listed ends part n r a)) (sym q) ∙ ap (λ xs. ahead xs (listed ends part n r a)) (sym p)
+-- before the first part
+pub list_begins : {A : Type 0} {ends : Lead → Bool} {part : Tokens → Reading A} {xs : List A} {n r : ℕ} {a : Tokens} → xs ≡ [] → n ≡ suc (length a)
+    → ListRead ends part (all_listed ends part r a) xs n r a
+list_begins {ends = ends} {part} {xs} {n} {r} {a} p q = record {
+  so_far =
+      sym (ahead-none (all_listed ends part r a)) ∙ ap (λ n. ahead [] (listed ends part n r a)) (sym q)
+      ∙ ap (λ xs. ahead xs (listed ends part n r a)) (sym p);
+}
+
+module _ {A : Type 0} {ends : Lead → Bool} {part : Tokens → Reading A} {whole : Reading (List A)} {xs : List A} {r : ℕ} {a : Tokens}
+    (n at : ℕ) (more : at < n) (k : ListRead ends part whole xs (n - at) r a) where
+  -- the parts behind a comma
+  abbrev others : ℕ → Tokens → Reading (List A)
+  others = listed ends part (n - (at + 1))
+
+  -- behind a comma
+  abbrev separated : A → Span → Reader (List A)
+  separated x s q c = behind_comma ends part (ends (front c)) others x q c
+
+  -- behind a part
+  abbrev parted : A → Reader (List A)
+  parted x m b = listed_by ends part (is_comma (front b)) others x m b
+
+  list_turn : (o : Reading A) → part a ≡ o → whole ≡ ahead xs (and_then o parted)
+  unfolding listed
+  list_turn o h = one_more (λ n. ahead xs (listed ends part n r a)) n at more k.so_far ∙ ap (λ o. ahead xs (and_then o parted)) h
 
   -- the part isn't read
-  pub part_fails : (whole : Reading (List A)) (xs : List A) (n r : ℕ) (a : Tokens) (e : Stop) (b : Tokens) → whole ≡ ahead xs (listed ends part (suc n) r a) → part a ≡ stopped e b → whole ≡ stopped e b
-  unfolding listed
-  part_fails whole xs n r a e b w h =
-      w ∙ ap (after xs n) h ∙ ap (ahead xs) (stops e b (λ x m b. listed_by ends part (is_comma (front b)) (listed ends part n) x m b)) ∙ stops e b (λ ys m b. found (xs ++ ys) m b)
+  pub part_fails : (e : Stop) (b : Tokens) → part a ≡ stopped e b → whole ≡ stopped e b
+  part_fails e b h = list_turn (stopped e b) h ∙ ap (ahead xs) (stops e b parted) ∙ ahead-stopped xs e b
+
+  part_turn : (x : A) (m : ℕ) (b : Tokens) (z : Bool) → part a ≡ found x m b → is_comma (front b) ≡ z
+      → whole ≡ ahead xs (listed_by ends part z others x m b)
+  part_turn x m b z h c = list_turn (found x m b) h ∙ ap (λ z. ahead xs (listed_by ends part z others x m b)) c
 
   -- the part is the last
-  pub part_ends : (whole : Reading (List A)) (xs ys : List A) (n r : ℕ) (a : Tokens) (x : A) (m : ℕ) (b : Tokens) → whole ≡ ahead xs (listed ends part (suc n) r a) → part a ≡ found x m b
-      → is_comma (front b) ≡ false → ys ≡ xs ++ x ∷ [] → whole ≡ found ys m b
-  unfolding listed
-  part_ends whole xs ys n r a x m b w h k p = w ∙ ap (after xs n) h ∙ ap (λ z. ahead xs (listed_by ends part z (listed ends part n) x m b)) k ∙ ap (λ z. found z m b) (sym p)
-
-  part_comma : (whole : Reading (List A)) (xs : List A) (n r : ℕ) (a : Tokens) (x : A) (m : ℕ) (b : Tokens) → whole ≡ ahead xs (listed ends part (suc n) r a) → part a ≡ found x m b → is_comma (front b) ≡ true
-      → whole ≡ behind xs n x (taken m b)
-  unfolding listed
-  part_comma whole xs n r a x m b w h k = w ∙ ap (after xs n) h ∙ ap (λ z. ahead xs (listed_by ends part z (listed ends part n) x m b)) k
+  pub part_ends : {ys : List A} {x : A} {m : ℕ} {b : Tokens} → part a ≡ found x m b → is_comma (front b) ≡ false → ys ≡ xs ++ x ∷ [] → whole ≡ found ys m b
+  part_ends {x = x} {m} {b} h c p = part_turn x m b false h c ∙ ap (λ z. found z m b) (sym p)
 
   -- the comma isn't taken
-  pub comma_fails : (whole : Reading (List A)) (xs : List A) (n r : ℕ) (a : Tokens) (x : A) (m : ℕ) (b : Tokens) (e : Stop) (c : Tokens) → whole ≡ ahead xs (listed ends part (suc n) r a) → part a ≡ found x m b
-      → is_comma (front b) ≡ true → taken m b ≡ stopped e c → whole ≡ stopped e c
-  comma_fails whole xs n r a x m b e c w h k t =
-      part_comma whole xs n r a x m b w h k ∙ ap (behind xs n x) t ∙ ap (ahead xs) (stops e c (λ s m c. behind_comma ends part (ends (front c)) (listed ends part n) x m c))
-      ∙ stops e c (λ ys m b. found (xs ++ ys) m b)
+  pub comma_fails : {x : A} {m : ℕ} {b : Tokens} (e : Stop) (d : Tokens) → part a ≡ found x m b → is_comma (front b) ≡ true → taken m b ≡ stopped e d
+      → whole ≡ stopped e d
+  comma_fails {x} {m} {b} e d h c t =
+      part_turn x m b true h c ∙ ap (λ o. ahead xs (and_then o (separated x))) t ∙ ap (ahead xs) (stops e d (separated x)) ∙ ahead-stopped xs e d
+
+  separated_turn : (x : A) (m : ℕ) (b : Tokens) (s : Span) (q : ℕ) (d : Tokens) (z : Bool) → part a ≡ found x m b → is_comma (front b) ≡ true
+      → taken m b ≡ found s q d → ends (front d) ≡ z
+      → whole ≡ ahead xs (behind_comma ends part z others x q d)
+  separated_turn x m b s q d z h c t e =
+      part_turn x m b true h c ∙ ap (λ o. ahead xs (and_then o (separated x))) t ∙ ap (λ z. ahead xs (behind_comma ends part z others x q d)) e
 
   -- behind the comma the list ends
-  pub comma_ends : (whole : Reading (List A)) (xs ys : List A) (n r : ℕ) (a : Tokens) (x : A) (m : ℕ) (b : Tokens) (s : Span) (q : ℕ) (c : Tokens) → whole ≡ ahead xs (listed ends part (suc n) r a) → part a ≡ found x m b
-      → is_comma (front b) ≡ true → taken m b ≡ found s q c → ends (front c) ≡ true → ys ≡ xs ++ x ∷ [] → whole ≡ found ys q c
-  comma_ends whole xs ys n r a x m b s q c w h k t d p =
-      part_comma whole xs n r a x m b w h k ∙ ap (behind xs n x) t ∙ ap (λ z. ahead xs (behind_comma ends part z (listed ends part n) x q c)) d ∙ ap (λ z. found z q c) (sym p)
+  pub comma_ends : {ys : List A} {x : A} {m q : ℕ} {b d : Tokens} {s : Span} → part a ≡ found x m b → is_comma (front b) ≡ true → taken m b ≡ found s q d
+      → ends (front d) ≡ true → ys ≡ xs ++ x ∷ []
+      → whole ≡ found ys q d
+  comma_ends {x = x} {m} {q} {b} {d} {s} h c t e p = separated_turn x m b s q d true h c t e ∙ ap (λ z. found z q d) (sym p)
 
   -- behind the comma the list goes on
-  pub comma_goes : (whole : Reading (List A)) (xs ys : List A) (n r : ℕ) (a : Tokens) (x : A) (m : ℕ) (b : Tokens) (s : Span) (q : ℕ) (c : Tokens) → whole ≡ ahead xs (listed ends part (suc n) r a) → part a ≡ found x m b
-      → is_comma (front b) ≡ true → taken m b ≡ found s q c → ends (front c) ≡ false → ys ≡ xs ++ x ∷ [] → whole ≡ ahead ys (listed ends part n q c)
-  comma_goes whole xs ys n r a x m b s q c w h k t d p =
-      part_comma whole xs n r a x m b w h k ∙ ap (behind xs n x) t ∙ ap (λ z. ahead xs (behind_comma ends part z (listed ends part n) x q c)) d
-      ∙ ahead-ahead xs (x ∷ []) (listed ends part n q c) ∙ ap (λ z. ahead z (listed ends part n q c)) (sym p)
+  pub comma_goes : {ys : List A} {x : A} {m q : ℕ} {b d : Tokens} {s : Span} → part a ≡ found x m b → is_comma (front b) ≡ true → taken m b ≡ found s q d
+      → ends (front d) ≡ false → ys ≡ xs ++ x ∷ []
+      → ListRead ends part whole ys (n - (at + 1)) q d
+  comma_goes {x = x} {m} {q} {b} {d} {s} h c t e p = record {
+    so_far = separated_turn x m b s q d false h c t e ∙ ahead-ahead xs (x ∷ []) (others q d) ∙ ap (λ z. ahead z (others q d)) (sym p);
+  }
 
-  -- no turn is left
-  pub list_ends : (whole : Reading (List A)) (xs : List A) (r : ℕ) (a : Tokens) → whole ≡ ahead xs (listed ends part 0 r a) → whole ≡ unexpected a
-  unfolding listed
-  list_ends whole xs r a w = w
+-- no turn is left
+pub list_ends : {A : Type 0} {ends : Lead → Bool} {part : Tokens → Reading A} {whole : Reading (List A)} {xs : List A} {r : ℕ} {a : Tokens} (n at : ℕ)
+    → n ≤ at → ListRead ends part whole xs (n - at) r a → whole ≡ unexpected a
+unfolding listed
+list_ends {ends = ends} {part} {xs = xs} {r} {a} n at done k = no_more (λ n. ahead xs (listed ends part n r a)) n at done k.so_far
 
 -- ---- the items of a block
 
@@ -190,72 +235,98 @@ before-done (found z m b) = refl
 before-done (unexpected b) = refl
 before-done (too_deep b) = refl
 
-module _ (self : Tokens → Reading Code) where
-  -- a turn, by whether the block ends
-  abbrev turn : Body → ℕ → ℕ → Tokens → Bool → Reading Body
-  turn x n r a z = before x (items_by self z (items_within self n) r a)
+-- Some items of a block are read: what all its items come to is them and what the others come to.
+pub record ItemsRead (self : Tokens → Reading Code) (whole : Reading Body) (x : Body) (n r : ℕ) (a : Tokens) : Type 0 where
+  pub so_far : whole ≡ before x (items_within self n r a)
 
-  -- what comes after an item
-  abbrev after_item : Body → ℕ → ℕ → Reading Body → Reading Body
-  after_item x n r o = before x (and_then o (λ y m b. before y (items_within self n r b)))
+-- before the first item
+pub items_begin : {self : Tokens → Reading Code} {x : Body} {n r : ℕ} {a : Tokens} → x ≡ tree.done → n ≡ suc (length a)
+    → ItemsRead self (items self r a) x n r a
+items_begin {self} {x} {n} {r} {a} p q = record {
+  so_far =
+      sym (before-done (items self r a)) ∙ ap (λ n. before tree.done (items_within self n r a)) (sym q)
+      ∙ ap (λ x. before x (items_within self n r a)) (sym p);
+}
 
-  -- before the first item
-  pub items_begin : (x : Body) (n r : ℕ) (a : Tokens) → x ≡ tree.done → n ≡ suc (length a) → items self r a ≡ before x (items_within self n r a)
-  items_begin x n r a p q = sym (before-done (items self r a)) ∙ ap (λ n. before tree.done (items_within self n r a)) (sym q) ∙ ap (λ x. before x (items_within self n r a)) (sym p)
+module _ {self : Tokens → Reading Code} {whole : Reading Body} {x : Body} {r : ℕ} {a : Tokens}
+    (n at : ℕ) (more : at < n) (k : ItemsRead self whole x (n - at) r a) where
+  -- behind an item
+  abbrev itemised : Body → Reader Body
+  itemised y m b = before y (items_within self (n - (at + 1)) r b)
+
+  items_turn : (z : Bool) → is_close_brace (front a) ≡ z → whole ≡ before x (items_by self z (items_within self (n - (at + 1))) r a)
+  unfolding items_within
+  items_turn z h =
+      one_more (λ n. before x (items_within self n r a)) n at more k.so_far ∙ ap (λ z. before x (items_by self z (items_within self (n - (at + 1))) r a)) h
 
   -- the block ends
-  pub items_end : (whole : Reading Body) (x : Body) (n r : ℕ) (a : Tokens) → whole ≡ before x (items_within self (suc n) r a) → is_close_brace (front a) ≡ true → whole ≡ found x r a
-  unfolding items_within
-  items_end whole x n r a w h = w ∙ ap (turn x n r a) h ∙ ap (λ y. found y r a) (append-done x)
+  pub items_end : is_close_brace (front a) ≡ true → whole ≡ found x r a
+  items_end h = items_turn true h ∙ ap (λ y. found y r a) (append-done x)
 
   -- the item isn't read
-  pub item_fails : (whole : Reading Body) (x : Body) (n r : ℕ) (a : Tokens) (e : Stop) (b : Tokens) → whole ≡ before x (items_within self (suc n) r a) → is_close_brace (front a) ≡ false → item self r a ≡ stopped e b
-      → whole ≡ stopped e b
-  unfolding items_within
-  item_fails whole x n r a e b w h k =
-      w ∙ ap (turn x n r a) h ∙ ap (after_item x n r) k ∙ ap (before x) (stops e b (λ y m b. before y (items_within self n r b))) ∙ stops e b (λ y m b. found (append x y) m b)
+  pub item_fails : (e : Stop) (b : Tokens) → is_close_brace (front a) ≡ false → item self r a ≡ stopped e b → whole ≡ stopped e b
+  item_fails e b h o =
+      items_turn false h ∙ ap (λ o. before x (and_then o itemised)) o ∙ ap (before x) (stops e b itemised) ∙ stops e b (λ y m b. found (append x y) m b)
 
   -- an item more
-  pub item_goes : (whole : Reading Body) (x z : Body) (n r : ℕ) (a : Tokens) (y : Body) (m : ℕ) (b : Tokens) → whole ≡ before x (items_within self (suc n) r a) → is_close_brace (front a) ≡ false
-      → item self r a ≡ found y m b → z ≡ append x y → whole ≡ before z (items_within self n r b)
-  unfolding items_within
-  item_goes whole x z n r a y m b w h k p = w ∙ ap (turn x n r a) h ∙ ap (after_item x n r) k ∙ before-before x y (items_within self n r b) ∙ ap (λ z. before z (items_within self n r b)) (sym p)
+  pub item_goes : {y z : Body} {m : ℕ} {b : Tokens} → is_close_brace (front a) ≡ false → item self r a ≡ found y m b → z ≡ append x y
+      → ItemsRead self whole z (n - (at + 1)) r b
+  item_goes {y} {z} {m} {b} h o p = record {
+    so_far =
+        items_turn false h ∙ ap (λ o. before x (and_then o itemised)) o ∙ before-before x y (items_within self (n - (at + 1)) r b)
+        ∙ ap (λ z. before z (items_within self (n - (at + 1)) r b)) (sym p);
+  }
 
-  -- no turn is left
-  pub block_ends : (whole : Reading Body) (x : Body) (r : ℕ) (a : Tokens) → whole ≡ before x (items_within self 0 r a) → whole ≡ unexpected a
-  unfolding items_within
-  block_ends whole x r a w = w
+-- no turn is left
+pub block_ends : {self : Tokens → Reading Code} {whole : Reading Body} {x : Body} {r : ℕ} {a : Tokens} (n at : ℕ) → n ≤ at
+    → ItemsRead self whole x (n - at) r a → whole ≡ unexpected a
+unfolding items_within
+block_ends {self} {x = x} {r} {a} n at done k = no_more (λ n. before x (items_within self n r a)) n at done k.so_far
 
 -- ---- what stands at file scope
 
--- what comes after one of them
-abbrev after_external : List Outer → ℕ → Reading Outer → Reading (List Outer)
-after_external xs n o = ahead xs (and_then o (λ x m b. externals_by (is_end (front b)) (externals n) x m b))
+-- Some of it is read: what all of it comes to is that and what the rest comes to.
+pub record ExternalsRead (whole : Reading (List Outer)) (xs : List Outer) (n r : ℕ) (a : Tokens) : Type 0 where
+  pub so_far : whole ≡ ahead xs (externals n r a)
 
--- before the first of them
-pub externals_begin : (xs : List Outer) (n r : ℕ) (a : Tokens) → xs ≡ [] → n ≡ suc (length a) → program r a ≡ ahead xs (externals n r a)
-externals_begin xs n r a p q = sym (ahead-none (program r a)) ∙ ap (λ n. ahead [] (externals n r a)) (sym q) ∙ ap (λ xs. ahead xs (externals n r a)) (sym p)
+-- before the first of it
+pub externals_begin : {xs : List Outer} {n r : ℕ} {a : Tokens} → xs ≡ [] → n ≡ suc (length a) → ExternalsRead (program r a) xs n r a
+externals_begin {xs} {n} {r} {a} p q = record {
+  so_far = sym (ahead-none (program r a)) ∙ ap (λ n. ahead [] (externals n r a)) (sym q) ∙ ap (λ xs. ahead xs (externals n r a)) (sym p);
+}
 
--- it isn't read
-pub external_fails : (whole : Reading (List Outer)) (xs : List Outer) (n r : ℕ) (a : Tokens) (e : Stop) (b : Tokens) → whole ≡ ahead xs (externals (suc n) r a) → external r a ≡ stopped e b → whole ≡ stopped e b
-unfolding externals
-external_fails whole xs n r a e b w h =
-    w ∙ ap (after_external xs n) h ∙ ap (ahead xs) (stops e b (λ x m b. externals_by (is_end (front b)) (externals n) x m b)) ∙ stops e b (λ ys m b. found (xs ++ ys) m b)
+module _ {whole : Reading (List Outer)} {xs : List Outer} {r : ℕ} {a : Tokens} (n at : ℕ) (more : at < n) (k : ExternalsRead whole xs (n - at) r a) where
+  -- behind one of it
+  abbrev outermost : Outer → Reader (List Outer)
+  outermost x m b = externals_by (is_end (front b)) (externals (n - (at + 1))) x m b
 
--- it is the last
-pub external_ends : (whole : Reading (List Outer)) (xs ys : List Outer) (n r : ℕ) (a : Tokens) (x : Outer) (m : ℕ) (b : Tokens) → whole ≡ ahead xs (externals (suc n) r a) → external r a ≡ found x m b
-    → is_end (front b) ≡ true → ys ≡ xs ++ x ∷ [] → whole ≡ found ys m b
-unfolding externals
-external_ends whole xs ys n r a x m b w h k p = w ∙ ap (after_external xs n) h ∙ ap (λ z. ahead xs (externals_by z (externals n) x m b)) k ∙ ap (λ z. found z m b) (sym p)
+  externals_turn : (o : Reading Outer) → external r a ≡ o → whole ≡ ahead xs (and_then o outermost)
+  unfolding externals
+  externals_turn o h = one_more (λ n. ahead xs (externals n r a)) n at more k.so_far ∙ ap (λ o. ahead xs (and_then o outermost)) h
 
--- one more
-pub external_goes : (whole : Reading (List Outer)) (xs ys : List Outer) (n r : ℕ) (a : Tokens) (x : Outer) (m : ℕ) (b : Tokens) → whole ≡ ahead xs (externals (suc n) r a) → external r a ≡ found x m b
-    → is_end (front b) ≡ false → ys ≡ xs ++ x ∷ [] → whole ≡ ahead ys (externals n m b)
-unfolding externals
-external_goes whole xs ys n r a x m b w h k p =
-    w ∙ ap (after_external xs n) h ∙ ap (λ z. ahead xs (externals_by z (externals n) x m b)) k ∙ ahead-ahead xs (x ∷ []) (externals n m b) ∙ ap (λ z. ahead z (externals n m b)) (sym p)
+  -- it isn't read
+  pub external_fails : (e : Stop) (b : Tokens) → external r a ≡ stopped e b → whole ≡ stopped e b
+  external_fails e b h = externals_turn (stopped e b) h ∙ ap (ahead xs) (stops e b outermost) ∙ ahead-stopped xs e b
+
+  external_turn : (x : Outer) (m : ℕ) (b : Tokens) (z : Bool) → external r a ≡ found x m b → is_end (front b) ≡ z
+      → whole ≡ ahead xs (externals_by z (externals (n - (at + 1))) x m b)
+  external_turn x m b z h e = externals_turn (found x m b) h ∙ ap (λ z. ahead xs (externals_by z (externals (n - (at + 1))) x m b)) e
+
+  -- it is the last
+  pub external_ends : {ys : List Outer} {x : Outer} {m : ℕ} {b : Tokens} → external r a ≡ found x m b → is_end (front b) ≡ true → ys ≡ xs ++ x ∷ []
+      → whole ≡ found ys m b
+  external_ends {x = x} {m} {b} h e p = external_turn x m b true h e ∙ ap (λ z. found z m b) (sym p)
+
+  -- one more
+  pub external_goes : {ys : List Outer} {x : Outer} {m : ℕ} {b : Tokens} → external r a ≡ found x m b → is_end (front b) ≡ false → ys ≡ xs ++ x ∷ []
+      → ExternalsRead whole ys (n - (at + 1)) m b
+  external_goes {x = x} {m} {b} h e p = record {
+    so_far =
+        external_turn x m b false h e ∙ ahead-ahead xs (x ∷ []) (externals (n - (at + 1)) m b) ∙ ap (λ z. ahead z (externals (n - (at + 1)) m b)) (sym p);
+  }
 
 -- no turn is left
-pub externals_end : (whole : Reading (List Outer)) (xs : List Outer) (r : ℕ) (a : Tokens) → whole ≡ ahead xs (externals 0 r a) → whole ≡ unexpected a
+pub externals_end : {whole : Reading (List Outer)} {xs : List Outer} {r : ℕ} {a : Tokens} (n at : ℕ) → n ≤ at → ExternalsRead whole xs (n - at) r a
+    → whole ≡ unexpected a
 unfolding externals
-externals_end whole xs r a w = w
+externals_end {xs = xs} {r} {a} n at done k = no_more (λ n. ahead xs (externals n r a)) n at done k.so_far

@@ -19,7 +19,7 @@ pub enum ParseFault {
 }
 
 /// Why reading stopped. The cursor stands at the token that is a fault.
-#[derive(Clone, Copy, Debug, PartialEq, Eq)]
+#[derive(Clone, Copy)]
 pub enum Stop {
     /// The token isn't expected.
     Unexpected,

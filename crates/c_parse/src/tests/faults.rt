@@ -60,10 +60,17 @@ fn program(alloc: Global) -> Result<(Vec<u8>, Vec<usize>), NoMemory> {
     Ok((source, begins))
 }
 
-// What `parse` says of a source that can be cut into tokens.
+// The tokens of a source that can be cut into them.
+fn cut(alloc: Global, source: &[u8]) -> Result<Vec<Token>, Fail> {
+    (source.len() < 65_536).then_some(()).ok_or("too long")?;
+    Ok(lex(alloc, source)?)
+}
+
+// What `parse` says of such a source.
 fn fault(alloc: Global, source: &[u8]) -> Result<Option<ParseFault>, Fail> {
-    let tokens = lex(alloc, source)?;
-    match parse(alloc, &tokens, source.len() as u32) {
+    let end = u32::try_from(source.len()).ok().ok_or("too long")?;
+    let tokens = cut(alloc, source)?;
+    match parse(alloc, &tokens, end) {
         Ok(_) => Ok(None),
         Err(fault) => Ok(Some(fault)),
     }
@@ -88,7 +95,7 @@ fn a_front_of_a_program_has_its_fault_at_the_end(rt: HostRuntime) -> Result<(), 
     let alloc = rt.alloc();
     let (source, begins) = program(alloc)?;
     assert_eq!(rt; fault(alloc, &source)?, None);
-    let tokens: Vec<Token> = lex(alloc, &source)?;
+    let tokens = cut(alloc, &source)?;
     for token in tokens.iter() {
         let cut = token.span.from;
         let mut want = Some(ParseFault::Unexpected(cut));
@@ -97,7 +104,8 @@ fn a_front_of_a_program_has_its_fault_at_the_end(rt: HostRuntime) -> Result<(), 
                 want = None;
             }
         }
-        assert_eq!(rt; fault(alloc, &source[..cut as usize])?, want, "at {cut}");
+        let front = source.get(..cut as usize).ok_or("no such place")?;
+        assert_eq!(rt; fault(alloc, front)?, want, "at {cut}");
     }
     Ok(())
 }
@@ -106,7 +114,7 @@ fn a_front_of_a_program_has_its_fault_at_the_end(rt: HostRuntime) -> Result<(), 
 fn a_keyword_of_no_production_is_the_fault(rt: HostRuntime) -> Result<(), Fail> {
     let alloc = rt.alloc();
     let (source, _) = program(alloc)?;
-    let tokens: Vec<Token> = lex(alloc, &source)?;
+    let tokens = cut(alloc, &source)?;
     for token in tokens.iter() {
         let changed = replaced(alloc, &source, token.span, b" struct ")?;
         let want = Some(ParseFault::Unexpected(token.span.from.wrapping_add(1)));

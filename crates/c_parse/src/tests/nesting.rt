@@ -56,6 +56,7 @@ fn source(alloc: Global, row: &Nest, copies: u32) -> Result<Vec<u8>, NoMemory> {
 
 // What `parse` says of a source that can be cut into tokens.
 fn fault(alloc: Global, source: &[u8]) -> Result<Option<ParseFault>, Fail> {
+    (source.len() < 65_536).then_some(()).ok_or("too long")?;
     let tokens = lex(alloc, source)?;
     match parse(alloc, &tokens, source.len() as u32) {
         Ok(_) => Ok(None),
@@ -63,12 +64,17 @@ fn fault(alloc: Global, source: &[u8]) -> Result<Option<ParseFault>, Fail> {
     }
 }
 
+// How many bytes the text has.
+fn length(text: &str) -> Result<u32, Fail> {
+    Ok(u32::try_from(text.len()).ok().ok_or("too long")?)
+}
+
 fn sixty_four_at_most(rt: &impl Abort, alloc: Global, row: &Nest) -> Result<(), Fail> {
     let lawful = source(alloc, row, row.most)?;
     assert_eq!(rt; fault(alloc, &lawful)?, None, "at {}", row.opener);
     let deeper = source(alloc, row, row.most.wrapping_add(1))?;
-    let place = (row.before.len() as u32)
-        .wrapping_add(row.most.wrapping_mul(row.opener.len() as u32))
+    let place = length(row.before)?
+        .wrapping_add(row.most.wrapping_mul(length(row.opener)?))
         .wrapping_add(row.at);
     assert_eq!(rt;
         fault(alloc, &deeper)?,

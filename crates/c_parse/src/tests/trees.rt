@@ -22,22 +22,6 @@ fn add_span(alloc: Global, out: &mut Vec<u8>, span: Span) -> Result<(), NoMemory
     add(out, text.as_bytes())
 }
 
-// Two expressions in brackets, with what stands between them.
-#[cycle(show_expr)]
-fn show_pair(
-    alloc: Global,
-    out: &mut Vec<u8>,
-    left: &Expr,
-    between: &str,
-    right: &Expr,
-) -> Result<(), NoMemory> {
-    add(out, b"[")?;
-    show_expr(alloc, out, left)?;
-    add(out, between.as_bytes())?;
-    show_expr(alloc, out, right)?;
-    add(out, b"]")
-}
-
 // What stands before an expression, and the expression.
 #[cycle(show_expr)]
 fn show_behind(alloc: Global, out: &mut Vec<u8>, before: &str, e: &Expr) -> Result<(), NoMemory> {
@@ -64,7 +48,7 @@ fn show_args(alloc: Global, out: &mut Vec<u8>, args: &[Arg]) -> Result<(), NoMem
 }
 
 #[cycle(show_expr)]
-fn show_operation(alloc: Global, out: &mut Vec<u8>, node: &ExprNode) -> Result<(), NoMemory> {
+fn show_prefix(alloc: Global, out: &mut Vec<u8>, node: &ExprNode) -> Result<(), NoMemory> {
     match node {
         ExprNode::Unary { op, of } => {
             let sign = format!(in alloc; "{op:?} ")?;
@@ -74,20 +58,35 @@ fn show_operation(alloc: Global, out: &mut Vec<u8>, node: &ExprNode) -> Result<(
             let sign = format!(in alloc; "{ty:?} ")?;
             show_behind(alloc, out, sign.as_str(), of)
         }
-        ExprNode::Binary { op, left, right } => {
-            let sign = format!(in alloc; " {op:?} ")?;
-            show_pair(alloc, out, left, sign.as_str(), right)
-        }
-        ExprNode::Assign { op, place, value } => {
-            let sign = format!(in alloc; " = {op:?} ")?;
-            show_pair(alloc, out, place, sign.as_str(), value)
-        }
         ExprNode::Bump { before, up, place } => {
             let sign = format!(in alloc; "{before} {up} ")?;
             show_behind(alloc, out, sign.as_str(), place)
         }
-        ExprNode::Comma { left, right } => show_pair(alloc, out, left, ", ", right),
         _ => add(out, b"?"),
+    }
+}
+
+#[cycle(show_expr)]
+fn show_infix(alloc: Global, out: &mut Vec<u8>, node: &ExprNode) -> Result<(), NoMemory> {
+    match node {
+        ExprNode::Binary { op, left, right } => {
+            let sign = format!(in alloc; " {op:?} ")?;
+            show_expr(alloc, out, left)?;
+            add(out, sign.as_bytes())?;
+            show_expr(alloc, out, right)
+        }
+        ExprNode::Assign { op, place, value } => {
+            let sign = format!(in alloc; " = {op:?} ")?;
+            show_expr(alloc, out, place)?;
+            add(out, sign.as_bytes())?;
+            show_expr(alloc, out, value)
+        }
+        ExprNode::Comma { left, right } => {
+            show_expr(alloc, out, left)?;
+            add(out, b", ")?;
+            show_expr(alloc, out, right)
+        }
+        node => show_prefix(alloc, out, node),
     }
 }
 
@@ -108,9 +107,18 @@ fn show_expr(alloc: Global, out: &mut Vec<u8>, e: &Expr) -> Result<(), NoMemory>
         }
         ExprNode::Choice { test, yes, no } => {
             show_behind(alloc, out, "? ", test)?;
-            show_pair(alloc, out, yes, " : ", no)?;
+            add(out, b"[")?;
+            show_expr(alloc, out, yes)?;
+            add(out, b" : ")?;
+            show_expr(alloc, out, no)?;
+            add(out, b"]")?;
         }
-        node => show_operation(alloc, out, node)?,
+        node @ (ExprNode::Binary { .. } | ExprNode::Assign { .. } | ExprNode::Comma { .. }) => {
+            add(out, b"[")?;
+            show_infix(alloc, out, node)?;
+            add(out, b"]")?;
+        }
+        node => show_prefix(alloc, out, node)?,
     }
     add_span(alloc, out, e.span)
 }
@@ -271,6 +279,7 @@ fn show_program(alloc: Global, program: &Program) -> Result<Vec<u8>, NoMemory> {
 
 // The tree of a source, as text.
 fn shown(alloc: Global, source: &[u8]) -> Result<Vec<u8>, Fail> {
+    (source.len() < 65_536).then_some(()).ok_or("too long")?;
     let tokens = lex(alloc, source)?;
     let program = parse(alloc, &tokens, source.len() as u32)?;
     Ok(show_program(alloc, &program)?)

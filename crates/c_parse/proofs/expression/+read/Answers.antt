@@ -13,4 +13,5 @@ unfolding run
 returns t c =
     let e : c.args.depth ≡ suc (c.args.depth - 1) = omega arith in
     rw (deeper (λ n. run n c.args.part c.args.cursor.now.room c.args.cursor.now.rest.now) c.args.depth (omega arith))
-    (subst (λ n. Gives marked (step (run (c.args.depth - 1)) n c.args.part c.args.cursor.now.room c.args.cursor.now.rest.now) c.step.result c.step.new.cursor.room c.step.new.cursor.rest.now) e c.step.ensures)
+    (subst (λ n. Gives marked (step (run (c.args.depth - 1)) n c.args.part c.args.cursor.now.room c.args.cursor.now.rest.now) c.step.result
+    c.step.new.cursor.room c.step.new.cursor.rest.now) e c.step.ensures)

@@ -1,13 +1,11 @@
-use Rattle.std.proofs.Common.{rules, arith, ◌≡◌, ◌-◌, ◌<◌, true, false, sym, ap, ◌∙◌, subst}
+use Rattle.std.proofs.Common.{rules, arith, ◌≡◌, ◌<◌, true, false, sym, ap, ◌∙◌, subst}
 use Rattle.std.proofs.lemmas.Result.{err_from_is_err_and}
-use Rattle.c_tree.specs.Tree as tree
-use Rattle.c_tree.specs.Views.{code, tree as tree_of, body_of}
+use Rattle.c_tree.specs.Views.{code, body_of}
 use Rattle.c_grammar.specs.Leads.{front, is_close_brace, is_else}
 use Rattle.c_grammar.specs.Descent.{found}
-use Rattle.c_grammar.specs.ProgramDescent.{before, items, items_within, under, statement}
-use Rattle.c_parse.specs.Gives.{Gives, body, alone}
+use Rattle.c_parse.specs.Gives.{Gives}
 use Rattle.c_parse.proofs.Shapes.{body_of-push}
-use Rattle.c_parse.proofs.Turns.{one_more, no_more, items_begin, items_end, item_fails, item_goes, block_ends}
+use Rattle.c_parse.proofs.Turns.{items_begin, items_end, item_fails, item_goes, block_ends}
 use Rattle.c_parse.proofs.Steps.{under-suc, block_fails, block_unclosed, block_found, branch_fails}
 use Rattle.c_parse.proofs.statement.+statement.Goals as goal
 
@@ -15,20 +13,21 @@ pub block-returns-in_err-items : goal.block-returns-in_err-items
 block-returns-in_err-items t c =
     let p = err_from_is_err_and c.from_residual-in_err-items.result c.from_residual-in_err-items.ensures.1 in
     rw (p.1, p.2)
-    (λ h. block_fails c.args.cursor.now.room c.args.cursor.now.rest.now c.in_ok-from.from c.open.new.self.room c.open.new.self.rest.now c.in_err-items.field-0.0 c.items.new.cursor.rest.now c.in_ok-from.ensures (c.in_err-items.ensures h))
+    (λ h.
+    block_fails c.args.cursor.now.room c.args.cursor.now.rest.now c.in_err-items.field-0.0 c.items.new.cursor.rest.now c.in_ok-from.ensures
+    (c.in_err-items.ensures h))
 
 pub block-returns-in_err-to : goal.block-returns-in_err-to
 block-returns-in_err-to t c =
     let p = err_from_is_err_and c.from_residual-in_err-to.result c.from_residual-in_err-to.ensures.1 in
     rw (p.1, p.2)
     (λ h.
-    block_unclosed c.args.cursor.now.room c.args.cursor.now.rest.now c.in_ok-from.from c.open.new.self.room c.open.new.self.rest.now (body c.in_ok-items.items) c.items.new.cursor.room c.items.new.cursor.rest.now c.in_err-to.field-0.0 c.close_brace.new.self.rest.now
-    c.in_ok-from.ensures c.in_ok-items.ensures (c.in_err-to.ensures h))
+    block_unclosed c.args.cursor.now.room c.args.cursor.now.rest.now c.in_err-to.field-0.0 c.close_brace.new.self.rest.now c.in_ok-from.ensures
+    c.in_ok-items.ensures (c.in_err-to.ensures h))
 
 pub block-returns : goal.block-returns
 block-returns t c =
-    block_found c.args.cursor.now.room c.args.cursor.now.rest.now c.in_ok-from.from c.open.new.self.room c.open.new.self.rest.now (body c.in_ok-items.items) c.items.new.cursor.room c.items.new.cursor.rest.now c.in_ok-to.to c.close_brace.new.self.room
-    c.close_brace.new.self.rest.now c.in_ok-from.ensures c.in_ok-items.ensures c.in_ok-to.ensures
+    block_found c.args.cursor.now.room c.args.cursor.now.rest.now c.in_ok-from.ensures c.in_ok-items.ensures c.in_ok-to.ensures
     ∙ ap (λ x. found x c.close_brace.new.self.room c.close_brace.new.self.rest.now) (sym c.in_braces.ensures)
 
 pub branch-returns-in_err-no : goal.branch-returns-in_err-no
@@ -37,35 +36,37 @@ branch-returns-in_err-no t c =
     let p = err_from_is_err_and c.from_residual-in_err-no.result c.from_residual-in_err-no.ensures.1 in
     rw (p.1, p.2)
     (λ h.
-    branch_fails c.args.cursor.now.room c.args.cursor.now.rest.now c.in_ok-from.from c.open.new.self.room c.open.new.self.rest.now (tree_of c.in_ok-test.test) c.tested.new.cursor.room c.tested.new.cursor.rest.now (code c.in_ok-yes.yes) c.inner.new.cursor.room
-    c.inner.new.cursor.rest.now c.in_ok-take.field-0 c.take.new.self.room c.take.new.self.rest.now c.in_err-no.field-0.0 c.inner-2.new.cursor.rest.now c.in_ok-from.ensures c.in_ok-test.ensures c.in_ok-yes.ensures k
-    c.in_ok-take.ensures (c.in_err-no.ensures h))
+    branch_fails c.args.cursor.now.room c.args.cursor.now.rest.now c.in_err-no.field-0.0 c.inner-2.new.cursor.rest.now c.in_ok-from.ensures
+    c.in_ok-test.ensures c.in_ok-yes.ensures k c.in_ok-take.ensures
+    (c.in_err-no.ensures h))
 
 pub inner-returns : goal.inner-returns
 inner-returns t c =
     let some : 0 < c.args.outside = omega arith in
-    subst (λ o. Gives code o c.statement.result c.statement.new.cursor.room c.statement.new.cursor.rest.now) (sym (under-suc c.args.outside c.args.cursor.now.rest.now some)) c.statement.ensures
+    subst (λ o. Gives code o c.statement.result c.statement.new.cursor.room c.statement.new.cursor.rest.now)
+    (sym (under-suc c.args.outside c.args.cursor.now.rest.now some)) c.statement.ensures
 
 pub items-loop-turn-init : goal.items-loop-turn-init
-items-loop-turn-init t c = items_begin (under c.args.outside) _ _ c.args.cursor.now.room c.args.cursor.now.rest.now (ap body_of c.new-items.ensures.items) (omega arith)
+items-loop-turn-init t c = items_begin (ap body_of c.new-items.ensures.items) (omega arith)
 
 pub items-returns-then-is_at_close_brace : goal.items-returns-then-is_at_close_brace
 items-returns-then-is_at_close_brace t c =
     let k : is_close_brace (front c.loop-turn.cursor.rest.now) ≡ true = search rules in
-    items_end (under c.args.outside) (items (under c.args.outside) c.args.cursor.now.room c.args.cursor.now.rest.now) (body c.loop-turn.items) _ c.args.cursor.now.room c.loop-turn.cursor.rest.now (one_more {x = items (under c.args.outside) c.args.cursor.now.room c.args.cursor.now.rest.now} (λ n. before (body c.loop-turn.items) (items_within (under c.args.outside) n c.args.cursor.now.room c.loop-turn.cursor.rest.now)) _ c.loop-turn._turn c.loop-turn-test.true c.loop-turn.invariant) k
+    items_end _ c.loop-turn._turn c.loop-turn-test.true c.loop-turn.invariant k
 
 pub items-returns-in_err-next : goal.items-returns-in_err-next
 items-returns-in_err-next t c =
     let k : is_close_brace (front c.loop-turn.cursor.rest.now) ≡ false = search rules in
     let p = err_from_is_err_and c.from_residual.result c.from_residual.ensures.1 in
     rw (p.1, p.2)
-    (λ h. item_fails (under c.args.outside) (items (under c.args.outside) c.args.cursor.now.room c.args.cursor.now.rest.now) (body c.loop-turn.items) _ c.args.cursor.now.room c.loop-turn.cursor.rest.now c.in_err-next.field-0.0 c.item.new.cursor.rest.now (one_more {x = items (under c.args.outside) c.args.cursor.now.room c.args.cursor.now.rest.now} (λ n. before (body c.loop-turn.items) (items_within (under c.args.outside) n c.args.cursor.now.room c.loop-turn.cursor.rest.now)) _ c.loop-turn._turn c.loop-turn-test.true c.loop-turn.invariant) k (c.in_err-next.ensures h))
+    (λ h.
+    item_fails _ c.loop-turn._turn c.loop-turn-test.true c.loop-turn.invariant c.in_err-next.field-0.0 c.item.new.cursor.rest.now k (c.in_err-next.ensures h))
 
 pub items-loop-turn-preserved : goal.items-loop-turn-preserved
 items-loop-turn-preserved t c =
     let k : is_close_brace (front c.loop-turn.cursor.rest.now) ≡ false = search rules in
-    item_goes (under c.args.outside) (items (under c.args.outside) c.args.cursor.now.room c.args.cursor.now.rest.now) (body c.loop-turn.items) _ _ c.args.cursor.now.room c.loop-turn.cursor.rest.now (alone c.in_ok-next.next) c.item.new.cursor.room c.item.new.cursor.rest.now (one_more {x = items (under c.args.outside) c.args.cursor.now.room c.args.cursor.now.rest.now} (λ n. before (body c.loop-turn.items) (items_within (under c.args.outside) n c.args.cursor.now.room c.loop-turn.cursor.rest.now)) _ c.loop-turn._turn c.loop-turn-test.true c.loop-turn.invariant) k c.in_ok-next.ensures
+    item_goes _ c.loop-turn._turn c.loop-turn-test.true c.loop-turn.invariant k c.in_ok-next.ensures
     (ap body_of c.in_ok-push.ensures.items ∙ body_of-push _ _)
 
 pub items-returns : goal.items-returns
-items-returns t c = λ h. block_ends (under c.args.outside) (items (under c.args.outside) c.args.cursor.now.room c.args.cursor.now.rest.now) (body c.loop-turn.items) c.args.cursor.now.room c.loop-turn.cursor.rest.now (no_more {x = items (under c.args.outside) c.args.cursor.now.room c.args.cursor.now.rest.now} (λ n. before (body c.loop-turn.items) (items_within (under c.args.outside) n c.args.cursor.now.room c.loop-turn.cursor.rest.now)) _ c.loop-turn._turn c.loop-turn-test.false c.loop-turn.invariant)
+items-returns t c = λ h. block_ends _ c.loop-turn._turn c.loop-turn-test.false c.loop-turn.invariant

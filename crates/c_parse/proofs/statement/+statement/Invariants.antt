@@ -1,6 +1,7 @@
-use Rattle.std.proofs.Common.{◌≡◌, ◌+◌, ◌-◌, ◌*◌}
-use Rattle.c_grammar.specs.ProgramDescent.{before, items, items_within, under}
+use Rattle.std.proofs.Common.{◌+◌, ◌-◌, ◌*◌}
+use Rattle.c_grammar.specs.ProgramDescent.{items, under}
 use Rattle.c_parse.specs.Gives.{body}
+use Rattle.c_parse.proofs.Turns.{ItemsRead}
 use Rattle.c_parse.proofs.statement.+statement.Given as goal
 
 abbrev pub decreases-inner : goal.decreases-inner
@@ -32,4 +33,5 @@ decreases-statement l = 8 * l.cursor.now.room + 4
 
 abbrev pub invariant-items-loop-turn : goal.invariant-items-loop-turn
 invariant-items-loop-turn l =
-    items (under l.outside) l.fn.cursor.room l.fn.cursor.rest.now ≡ before (body l.items) (items_within (under l.outside) (l._turn-end - l._turn) l.fn.cursor.room l.cursor.rest.now)
+    ItemsRead (under l.outside) (items (under l.outside) l.fn.cursor.room l.fn.cursor.rest.now) (body l.items) (l._turn-end - l._turn) l.fn.cursor.room
+    l.cursor.rest.now

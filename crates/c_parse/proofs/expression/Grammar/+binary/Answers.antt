@@ -6,10 +6,12 @@ use Rattle.c_parse.proofs.expression.Grammar.+binary.Goals as goal
 
 pub returns-in_err-tree : goal.returns-in_err-tree
 returns-in_err-tree g t c =
-    let e = deeper (λ n. spec.binary (spec.run c.args.self.now.depth) c.args.self.now.turns n c.args.cursor.now.room c.args.cursor.now.rest.now) c.args.rank (omega arith) in
+    let e = deeper (λ n. spec.binary (spec.run c.args.self.now.depth) c.args.self.now.turns n c.args.cursor.now.room c.args.cursor.now.rest.now) c.args.rank
+    (omega arith) in
     first_of (search rules, grind (arith, common_steps))
 
 pub returns : goal.returns
 returns g t c =
-    let e = deeper (λ n. spec.binary (spec.run c.args.self.now.depth) c.args.self.now.turns n c.args.cursor.now.room c.args.cursor.now.rest.now) c.args.rank (omega arith) in
+    let e = deeper (λ n. spec.binary (spec.run c.args.self.now.depth) c.args.self.now.turns n c.args.cursor.now.room c.args.cursor.now.rest.now) c.args.rank
+    (omega arith) in
     first_of (search rules, grind (arith, common_steps))

@@ -1,36 +1,43 @@
-use Rattle.std.proofs.Common.{rules, arith, ◌≡◌, ◌+◌, sym, ap, ◌∙◌, ◌-◌, suc, true, false, Some, None}
+use Rattle.std.proofs.Common.{rules, arith, ◌≡◌, ◌+◌, suc, Some, None, sym, ap, ◌∙◌}
 use Rattle.std.proofs.lemmas.Result.{err_from_is_err_and}
-use Rattle.c_tree.specs.Views.{tree}
-use Rattle.c_grammar.specs.Leads.{front, operator_at, is_comma}
-use Rattle.c_grammar.specs.Descent as spec
-use Rattle.c_parse.proofs.Turns.{one_more, no_more, operator_absent, operator_fails, operand_fails, operator_goes}
+use Rattle.c_grammar.specs.Leads.{front, operator_at}
+use Rattle.c_parse.proofs.Turns.{operator_absent, operator_fails, operand_fails, operator_goes, operators_end}
 use Rattle.c_parse.proofs.expression.Grammar.operators.Goals as goal
 
 pub returns-in_default : goal.returns-in_default
 returns-in_default g c =
     let k : operator_at (suc c.args.below) (front c.loop-turn.cursor.rest.now) ≡ None = search rules in
-    operator_absent (spec.run c.args.self.now.depth) (spec.operators (spec.run c.args.self.now.depth) c.args.self.now.turns c.args.below (tree c.args.tree, c.args.unary) c.args.cursor.now.room c.args.cursor.now.rest.now) _ c.args.below (tree c.loop-turn.tree, c.loop-turn.unary) c.loop-turn.cursor.room c.loop-turn.cursor.rest.now (one_more {x = spec.operators (spec.run c.args.self.now.depth) c.args.self.now.turns c.args.below (tree c.args.tree, c.args.unary) c.args.cursor.now.room c.args.cursor.now.rest.now} (λ n. spec.operators (spec.run c.args.self.now.depth) n c.args.below (tree c.loop-turn.tree, c.loop-turn.unary) c.loop-turn.cursor.room c.loop-turn.cursor.rest.now) _ c.loop-turn._turn c.loop-turn-test.true c.loop-turn.invariant) k
+    operator_absent _ c.loop-turn._turn c.loop-turn-test.true c.loop-turn.invariant k
 
 pub returns-in_err-open : goal.returns-in_err-open
 returns-in_err-open g c =
+    let one : suc c.args.below ≡ c.args.below + 1 = omega arith in
+    let k : operator_at (suc c.args.below) (front c.loop-turn.cursor.rest.now) ≡ Some c.in-Some.op = ap
+    (λ n. operator_at n (front c.loop-turn.cursor.rest.now)) one ∙ sym c.in-Some.ensures in
     let p = err_from_is_err_and c.from_residual.result c.from_residual.ensures.1 in
-    let k : operator_at (suc c.args.below) (front c.loop-turn.cursor.rest.now) ≡ Some c.in-Some.op =
-    let one : suc c.args.below ≡ c.args.below + 1 = omega arith in ap (λ n. operator_at n (front c.loop-turn.cursor.rest.now)) one ∙ sym c.in-Some.ensures in
-    rw (p.1, p.2) (λ h. operator_fails (spec.run c.args.self.now.depth) (spec.operators (spec.run c.args.self.now.depth) c.args.self.now.turns c.args.below (tree c.args.tree, c.args.unary) c.args.cursor.now.room c.args.cursor.now.rest.now) _ c.args.below (tree c.loop-turn.tree, c.loop-turn.unary) c.loop-turn.cursor.room c.loop-turn.cursor.rest.now c.in-Some.op c.in_err-open.field-0.0 c.open.new.self.rest.now (one_more {x = spec.operators (spec.run c.args.self.now.depth) c.args.self.now.turns c.args.below (tree c.args.tree, c.args.unary) c.args.cursor.now.room c.args.cursor.now.rest.now} (λ n. spec.operators (spec.run c.args.self.now.depth) n c.args.below (tree c.loop-turn.tree, c.loop-turn.unary) c.loop-turn.cursor.room c.loop-turn.cursor.rest.now) _ c.loop-turn._turn c.loop-turn-test.true c.loop-turn.invariant) k (c.in_err-open.ensures h))
+    rw (p.1, p.2)
+    (λ h.
+    operator_fails _ c.loop-turn._turn c.loop-turn-test.true c.loop-turn.invariant c.in-Some.op c.in_err-open.field-0.0 c.open.new.self.rest.now k
+    (c.in_err-open.ensures h))
 
 pub returns-in_err-right : goal.returns-in_err-right
 returns-in_err-right g c =
+    let one : suc c.args.below ≡ c.args.below + 1 = omega arith in
+    let k : operator_at (suc c.args.below) (front c.loop-turn.cursor.rest.now) ≡ Some c.in-Some.op = ap
+    (λ n. operator_at n (front c.loop-turn.cursor.rest.now)) one ∙ sym c.in-Some.ensures in
     let p = err_from_is_err_and c.from_residual-in_err-right.result c.from_residual-in_err-right.ensures.1 in
-    let k : operator_at (suc c.args.below) (front c.loop-turn.cursor.rest.now) ≡ Some c.in-Some.op =
-    let one : suc c.args.below ≡ c.args.below + 1 = omega arith in ap (λ n. operator_at n (front c.loop-turn.cursor.rest.now)) one ∙ sym c.in-Some.ensures in
     rw (p.1, p.2)
-    (λ h. operand_fails (spec.run c.args.self.now.depth) (spec.operators (spec.run c.args.self.now.depth) c.args.self.now.turns c.args.below (tree c.args.tree, c.args.unary) c.args.cursor.now.room c.args.cursor.now.rest.now) _ c.args.below (tree c.loop-turn.tree, c.loop-turn.unary) c.loop-turn.cursor.room c.loop-turn.cursor.rest.now c.in-Some.op c.in_ok-open.field-0 c.open.new.self.room c.open.new.self.rest.now c.in_err-right.field-0.0 c.smaller.new.cursor.rest.now (one_more {x = spec.operators (spec.run c.args.self.now.depth) c.args.self.now.turns c.args.below (tree c.args.tree, c.args.unary) c.args.cursor.now.room c.args.cursor.now.rest.now} (λ n. spec.operators (spec.run c.args.self.now.depth) n c.args.below (tree c.loop-turn.tree, c.loop-turn.unary) c.loop-turn.cursor.room c.loop-turn.cursor.rest.now) _ c.loop-turn._turn c.loop-turn-test.true c.loop-turn.invariant) k c.in_ok-open.ensures (c.in_err-right.ensures h))
+    (λ h.
+    operand_fails _ c.loop-turn._turn c.loop-turn-test.true c.loop-turn.invariant c.in-Some.op c.in_err-right.field-0.0 c.smaller.new.cursor.rest.now k
+    c.in_ok-open.ensures (c.in_err-right.ensures h))
 
 pub loop-turn-preserved : goal.loop-turn-preserved
 loop-turn-preserved g c =
-    let k : operator_at (suc c.args.below) (front c.loop-turn.cursor.rest.now) ≡ Some c.in-Some.op =
-    let one : suc c.args.below ≡ c.args.below + 1 = omega arith in ap (λ n. operator_at n (front c.loop-turn.cursor.rest.now)) one ∙ sym c.in-Some.ensures in
-    operator_goes (spec.run c.args.self.now.depth) (spec.operators (spec.run c.args.self.now.depth) c.args.self.now.turns c.args.below (tree c.args.tree, c.args.unary) c.args.cursor.now.room c.args.cursor.now.rest.now) _ c.args.below (tree c.loop-turn.tree, c.loop-turn.unary) c.loop-turn.cursor.room c.loop-turn.cursor.rest.now c.in-Some.op c.in_ok-open.field-0 c.open.new.self.room c.open.new.self.rest.now (tree c.in_ok-right.right, c.in_ok-right.field-0-1) c.smaller.new.cursor.room c.smaller.new.cursor.rest.now _ (one_more {x = spec.operators (spec.run c.args.self.now.depth) c.args.self.now.turns c.args.below (tree c.args.tree, c.args.unary) c.args.cursor.now.room c.args.cursor.now.rest.now} (λ n. spec.operators (spec.run c.args.self.now.depth) n c.args.below (tree c.loop-turn.tree, c.loop-turn.unary) c.loop-turn.cursor.room c.loop-turn.cursor.rest.now) _ c.loop-turn._turn c.loop-turn-test.true c.loop-turn.invariant) k c.in_ok-open.ensures c.in_ok-right.ensures c.in_ok-tree.ensures
+    let one : suc c.args.below ≡ c.args.below + 1 = omega arith in
+    let k : operator_at (suc c.args.below) (front c.loop-turn.cursor.rest.now) ≡ Some c.in-Some.op = ap
+    (λ n. operator_at n (front c.loop-turn.cursor.rest.now)) one ∙ sym c.in-Some.ensures in
+    operator_goes _ c.loop-turn._turn c.loop-turn-test.true c.loop-turn.invariant c.in-Some.op k c.in_ok-open.ensures c.in_ok-right.ensures
+    c.in_ok-tree.ensures
 
 pub returns : goal.returns
-returns g c = λ h. (no_more {x = spec.operators (spec.run c.args.self.now.depth) c.args.self.now.turns c.args.below (tree c.args.tree, c.args.unary) c.args.cursor.now.room c.args.cursor.now.rest.now} (λ n. spec.operators (spec.run c.args.self.now.depth) n c.args.below (tree c.loop-turn.tree, c.loop-turn.unary) c.loop-turn.cursor.room c.loop-turn.cursor.rest.now) _ c.loop-turn._turn c.loop-turn-test.false c.loop-turn.invariant)
+returns g c = λ h. operators_end _ c.loop-turn._turn c.loop-turn-test.false c.loop-turn.invariant

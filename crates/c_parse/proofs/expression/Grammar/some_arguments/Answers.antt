@@ -1,37 +1,41 @@
-use Rattle.std.proofs.Common.{rules, arith, ◌≡◌, ◌-◌, true, false, refl, ap, map}
+use Rattle.std.proofs.Common.{rules, arith, ◌≡◌, true, false, refl, ap, map}
 use Rattle.std.proofs.lemmas.Result.{err_from_is_err_and}
 use Rattle.c_parse.specs.Gives.{given}
-use Rattle.c_grammar.specs.Leads.{front, is_comma, never}
-use Rattle.c_grammar.specs.Descent.{ahead, listed, all_listed}
-use Rattle.c_grammar.specs.Descent as spec
+use Rattle.c_grammar.specs.Leads.{front, is_comma}
 use Rattle.c_parse.proofs.Shapes.{map-push}
-use Rattle.c_parse.proofs.Turns.{one_more, no_more, list_begins, part_fails, part_ends, comma_fails, comma_goes, list_ends}
+use Rattle.c_parse.proofs.Turns.{list_begins, part_fails, part_ends, comma_fails, comma_goes, list_ends}
 use Rattle.c_parse.proofs.expression.Grammar.some_arguments.Goals as goal
 
 pub loop-turn-init : goal.loop-turn-init
-loop-turn-init g c = list_begins never (spec.argument (spec.run c.args.self.now.depth) c.args.cursor.now.room) _ _ c.args.cursor.now.room c.args.cursor.now.rest.now (ap (map given) c.new-args.ensures.items) (omega arith)
+loop-turn-init g c = list_begins (ap (map given) c.new-args.ensures.items) (omega arith)
 
 pub returns-in_err-next : goal.returns-in_err-next
 returns-in_err-next g c =
     let p = err_from_is_err_and c.from_residual.result c.from_residual.ensures.1 in
-    rw (p.1, p.2) (λ h. part_fails never (spec.argument (spec.run c.args.self.now.depth) c.args.cursor.now.room) (all_listed never (spec.argument (spec.run c.args.self.now.depth) c.args.cursor.now.room) c.args.cursor.now.room c.args.cursor.now.rest.now) (map given c.loop-turn.args.items) _ c.loop-turn.cursor.room c.loop-turn.cursor.rest.now c.in_err-next.field-0.0 c.argument.new.cursor.rest.now (one_more {x = all_listed never (spec.argument (spec.run c.args.self.now.depth) c.args.cursor.now.room) c.args.cursor.now.room c.args.cursor.now.rest.now} (λ n. ahead (map given c.loop-turn.args.items) (listed never (spec.argument (spec.run c.args.self.now.depth) c.args.cursor.now.room) n c.loop-turn.cursor.room c.loop-turn.cursor.rest.now)) _ c.loop-turn._turn c.loop-turn-test.true c.loop-turn.invariant) (c.in_err-next.ensures h))
+    rw (p.1, p.2)
+    (λ h.
+    part_fails _ c.loop-turn._turn c.loop-turn-test.true c.loop-turn.invariant c.in_err-next.field-0.0 c.argument.new.cursor.rest.now
+    (c.in_err-next.ensures h))
 
 pub returns-then-not-is_at_comma : goal.returns-then-not-is_at_comma
 returns-then-not-is_at_comma g c =
     let k : is_comma (front c.argument.new.cursor.rest.now) ≡ false = search rules in
-    part_ends never (spec.argument (spec.run c.args.self.now.depth) c.args.cursor.now.room) (all_listed never (spec.argument (spec.run c.args.self.now.depth) c.args.cursor.now.room) c.args.cursor.now.room c.args.cursor.now.rest.now) (map given c.loop-turn.args.items) _ _ c.loop-turn.cursor.room c.loop-turn.cursor.rest.now (given c.in_ok-next.next) c.argument.new.cursor.room c.argument.new.cursor.rest.now (one_more {x = all_listed never (spec.argument (spec.run c.args.self.now.depth) c.args.cursor.now.room) c.args.cursor.now.room c.args.cursor.now.rest.now} (λ n. ahead (map given c.loop-turn.args.items) (listed never (spec.argument (spec.run c.args.self.now.depth) c.args.cursor.now.room) n c.loop-turn.cursor.room c.loop-turn.cursor.rest.now)) _ c.loop-turn._turn c.loop-turn-test.true c.loop-turn.invariant) c.in_ok-next.ensures k (map-push given _ _ _ c.in_ok-push.ensures.items)
+    part_ends _ c.loop-turn._turn c.loop-turn-test.true c.loop-turn.invariant c.in_ok-next.ensures k (map-push given _ _ _ c.in_ok-push.ensures.items)
 
 pub returns-in_err-take : goal.returns-in_err-take
 returns-in_err-take g c =
-    let p = err_from_is_err_and c.from_residual-in_err-take.result c.from_residual-in_err-take.ensures.1 in
     let k : is_comma (front c.argument.new.cursor.rest.now) ≡ true = search rules in
+    let p = err_from_is_err_and c.from_residual-in_err-take.result c.from_residual-in_err-take.ensures.1 in
     rw (p.1, p.2)
-    (λ h. comma_fails never (spec.argument (spec.run c.args.self.now.depth) c.args.cursor.now.room) (all_listed never (spec.argument (spec.run c.args.self.now.depth) c.args.cursor.now.room) c.args.cursor.now.room c.args.cursor.now.rest.now) (map given c.loop-turn.args.items) _ c.loop-turn.cursor.room c.loop-turn.cursor.rest.now (given c.in_ok-next.next) c.argument.new.cursor.room c.argument.new.cursor.rest.now c.in_err-take.field-0.0 c.take.new.self.rest.now (one_more {x = all_listed never (spec.argument (spec.run c.args.self.now.depth) c.args.cursor.now.room) c.args.cursor.now.room c.args.cursor.now.rest.now} (λ n. ahead (map given c.loop-turn.args.items) (listed never (spec.argument (spec.run c.args.self.now.depth) c.args.cursor.now.room) n c.loop-turn.cursor.room c.loop-turn.cursor.rest.now)) _ c.loop-turn._turn c.loop-turn-test.true c.loop-turn.invariant) c.in_ok-next.ensures k (c.in_err-take.ensures h))
+    (λ h.
+    comma_fails _ c.loop-turn._turn c.loop-turn-test.true c.loop-turn.invariant c.in_err-take.field-0.0 c.take.new.self.rest.now c.in_ok-next.ensures k
+    (c.in_err-take.ensures h))
 
 pub loop-turn-preserved : goal.loop-turn-preserved
 loop-turn-preserved g c =
     let k : is_comma (front c.argument.new.cursor.rest.now) ≡ true = search rules in
-    comma_goes never (spec.argument (spec.run c.args.self.now.depth) c.args.cursor.now.room) (all_listed never (spec.argument (spec.run c.args.self.now.depth) c.args.cursor.now.room) c.args.cursor.now.room c.args.cursor.now.rest.now) (map given c.loop-turn.args.items) _ _ c.loop-turn.cursor.room c.loop-turn.cursor.rest.now (given c.in_ok-next.next) c.argument.new.cursor.room c.argument.new.cursor.rest.now c.in_ok-take.field-0 c.take.new.self.room c.take.new.self.rest.now (one_more {x = all_listed never (spec.argument (spec.run c.args.self.now.depth) c.args.cursor.now.room) c.args.cursor.now.room c.args.cursor.now.rest.now} (λ n. ahead (map given c.loop-turn.args.items) (listed never (spec.argument (spec.run c.args.self.now.depth) c.args.cursor.now.room) n c.loop-turn.cursor.room c.loop-turn.cursor.rest.now)) _ c.loop-turn._turn c.loop-turn-test.true c.loop-turn.invariant) c.in_ok-next.ensures k c.in_ok-take.ensures refl (map-push given _ _ _ c.in_ok-push.ensures.items)
+    comma_goes _ c.loop-turn._turn c.loop-turn-test.true c.loop-turn.invariant c.in_ok-next.ensures k c.in_ok-take.ensures refl
+    (map-push given _ _ _ c.in_ok-push.ensures.items)
 
 pub returns : goal.returns
-returns g c = λ h. list_ends never (spec.argument (spec.run c.args.self.now.depth) c.args.cursor.now.room) (all_listed never (spec.argument (spec.run c.args.self.now.depth) c.args.cursor.now.room) c.args.cursor.now.room c.args.cursor.now.rest.now) (map given c.loop-turn.args.items) c.loop-turn.cursor.room c.loop-turn.cursor.rest.now (no_more {x = all_listed never (spec.argument (spec.run c.args.self.now.depth) c.args.cursor.now.room) c.args.cursor.now.room c.args.cursor.now.rest.now} (λ n. ahead (map given c.loop-turn.args.items) (listed never (spec.argument (spec.run c.args.self.now.depth) c.args.cursor.now.room) n c.loop-turn.cursor.room c.loop-turn.cursor.rest.now)) _ c.loop-turn._turn c.loop-turn-test.false c.loop-turn.invariant)
+returns g c = λ h. list_ends _ c.loop-turn._turn c.loop-turn-test.false c.loop-turn.invariant
