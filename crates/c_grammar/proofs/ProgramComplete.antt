@@ -8,7 +8,7 @@ use Rattle.c_tree.specs.declared.place.Span.{Span}
 use Rattle.c_tree.specs.declared.program.Param.{Param}
 use Rattle.c_tree.specs.declared.stmt.Ty.{Ty}
 use Rattle.c_tree.specs.declared.stmt.Shape.TheVariants.{Scalar, Array}
-use Rattle.c_tree.specs.Locations.{span_of}
+use Rattle.c_tree.specs.Parts.{span_of}
 use Rattle.c_tree.specs.Tree as tree
 use Rattle.c_tree.specs.Tree.{Tree, Variable, First, Code, Body, Outer}
 use Rattle.c_grammar.specs.declared.lead.Lead.{Lead}

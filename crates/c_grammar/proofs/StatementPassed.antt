@@ -7,7 +7,7 @@ use Rattle.c_tree.specs.declared.place.Span.{Span}
 use Rattle.c_tree.specs.declared.stmt.Ty.{Ty}
 use Rattle.c_tree.specs.Tree as tree
 use Rattle.c_tree.specs.Tree.{Tree, Variable, First, Code, Body}
-use Rattle.c_tree.specs.Locations.{span_of}
+use Rattle.c_tree.specs.Parts.{span_of}
 use Rattle.c_grammar.specs.declared.lead.Lead.{Lead}
 use Rattle.c_grammar.specs.declared.lead.Lead.TheVariants as lead
 use Rattle.c_grammar.specs.declared.part.Part.TheVariants.{Expression}

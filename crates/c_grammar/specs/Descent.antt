@@ -9,7 +9,7 @@ use Rattle.c_tree.specs.declared.expr.UnOp.{UnOp}
 use Rattle.c_tree.specs.declared.place.Span.{Span}
 use Rattle.c_tree.specs.declared.stmt.Slot.TheVariants.{Unset}
 use Rattle.c_tree.specs.declared.stmt.Ty.{Ty}
-use Rattle.c_tree.specs.Locations.{span_of}
+use Rattle.c_tree.specs.Parts.{span_of}
 use Rattle.c_tree.specs.Tree as tree
 use Rattle.c_tree.specs.Tree.{Tree}
 use Rattle.c_grammar.specs.declared.lead.Lead.{Lead}

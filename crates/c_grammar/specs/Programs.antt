@@ -13,7 +13,7 @@ use Rattle.c_tree.specs.declared.stmt.Slot.TheVariants.{Unset}
 use Rattle.c_tree.specs.declared.stmt.Ty.{Ty}
 use Rattle.c_tree.specs.declared.stmt.Shape.{Shape}
 use Rattle.c_tree.specs.declared.stmt.Shape.TheVariants.{Scalar, Array}
-use Rattle.c_tree.specs.Locations.{span_of}
+use Rattle.c_tree.specs.Parts.{span_of}
 use Rattle.c_tree.specs.Tree as tree
 use Rattle.c_tree.specs.Tree.{Tree, Initial, Variable, First, Code, Body, Function, Outer}
 use Rattle.c_grammar.specs.declared.part.Part.TheVariants.{Expression, Assignment}

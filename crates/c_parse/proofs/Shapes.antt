@@ -13,7 +13,7 @@ use Rattle.c_tree.specs.declared.stmt.Item.TheVariants.{Vars, Stmt'}
 use Rattle.c_tree.specs.declared.stmt.Item.TheBlock.{Row_of-Item, more_of-Item, end_of-Item, items-the_row-Item, items_hidden-the_row-Item-0, hidden-the_row-Item-0}
 use Rattle.c_tree.specs.Tree.{call, choice, block, done}
 use Rattle.c_tree.specs.Views.{tree, node_tree, args_tree, with_arg, args_of, node_code, items_code, with_item, body_of}
-use Rattle.c_tree.specs.Locations.{span_of}
+use Rattle.c_tree.specs.Parts.{span_of}
 use Rattle.c_grammar.specs.Grammar.{over, chosen, args}
 use Rattle.c_grammar.specs.ProgramDescent.{append}
 use Rattle.c_parse.specs.Gives.{given}

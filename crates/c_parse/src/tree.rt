@@ -2,7 +2,7 @@
 
 ghost use Rattle.std.specs.Prelude.{◌≡◌, map, IfOk, Some, None, true, false};
 ghost use Rattle.c_tree.specs.declared.stmt.Slot.TheVariants.{Unset};
-ghost use Rattle.c_tree.specs.Locations.{span_of};
+ghost use Rattle.c_tree.specs.Parts.{span_of};
 ghost use Rattle.c_tree.specs.Tree as plain;
 ghost use Rattle.c_tree.specs.Views.{tree, tree_option, initial, variable, first, code, body_of, outer};
 ghost use Rattle.c_grammar.specs.Grammar as grammar;
