@@ -71,5 +71,3 @@ pub fn one_outcome()
     ensures { (bytes : Bytes) (r s : Outcome) → Lexes bytes r → Lexes bytes s → r ≡ s }
 {}
 
-#[cfg(test)]
-mod tests;

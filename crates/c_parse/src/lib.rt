@@ -7,8 +7,6 @@ mod expression;
 mod fault;
 mod program;
 mod statement;
-#[cfg(test)]
-mod tests;
 mod tree;
 
 pub use c_grammar::one_program;

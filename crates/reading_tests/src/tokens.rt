@@ -1,8 +1,8 @@
 //! Sources with their tokens and their faults, by hand from the C standard.
 
-use super::*;
-use crate::token::TokenKind;
-use c_tree::Text;
+use c_lex::{LexFault, Token, TokenKind, lex};
+use c_tree::{Span, Text};
+use std::alloc::Global;
 use std::test::Fail;
 
 // The bytes of a text in decimal where they aren't printing ASCII.

@@ -1,7 +1,7 @@
 //! The first faults of sources: their places are counted by hand, or follow from where a source was cut or changed.
 
-use crate::{ParseFault, parse};
 use c_lex::{Token, lex};
+use c_parse::{ParseFault, parse};
 use c_tree::{NoMemory, Span};
 use std::alloc::Global;
 use std::test::Fail;

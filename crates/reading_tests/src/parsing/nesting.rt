@@ -1,7 +1,7 @@
 //! How deep a program may nest: each opener of the language, 64 and 65 deep.
 
-use crate::{ParseFault, parse};
 use c_lex::lex;
+use c_parse::{ParseFault, parse};
 use c_tree::NoMemory;
 use std::alloc::Global;
 use std::process::Abort;

@@ -5,8 +5,8 @@ mod faults;
 mod nesting;
 mod trees;
 
-use crate::{ParseFault, parse};
 use c_lex::{Keyword, Punct, Token, TokenKind};
+use c_parse::{ParseFault, parse};
 use c_tree::{NoMemory, Span, Text};
 use std::alloc::Global;
 use std::test::Fail;

@@ -1,7 +1,7 @@
 //! The trees of small sources with their spans, by hand.
 
-use crate::parse;
 use c_lex::lex;
+use c_parse::parse;
 use c_tree::{
     Arg, Declarator, Expr, ExprNode, External, Func, Init, Item, NoMemory, Param, Program, Shape,
     Span, Start, Stmt, StmtNode,

@@ -1,0 +1,15 @@
+//! The locations of a program, which are the places that a patch can change; what stands at one of them, and the
+//! program with that part changed.
+#![tactic(auto)]
+
+mod change;
+mod fault;
+mod laws;
+mod list;
+mod tally;
+mod walk;
+
+pub use change::Change;
+pub use fault::LocFault;
+pub use laws::{each_names_one_place, locations_rise, nothing_elsewhere};
+pub use list::locations;
