@@ -15,3 +15,6 @@ pub mod Scanning
 pub mod Forms
 pub mod DirectiveParts
 pub mod Cutting
+pub mod Decided
+pub mod DecidedLines
+pub mod Outcomes

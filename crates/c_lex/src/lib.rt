@@ -18,5 +18,5 @@ mod spelling;
 mod token;
 
 pub use fault::LexFault;
-pub use reading::{lex, one_outcome};
+pub use reading::{lex, one_outcome, some_outcome};
 pub use token::{Keyword, Punct, Token, TokenKind};

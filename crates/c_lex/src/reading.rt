@@ -3,6 +3,7 @@
 ghost use Rattle.std.specs.Prelude.{◌≡◌, ◌≢◌, ◌<◌, ◌≤◌, ◌^◌, false, length, Ok, Err, IfOk, IfErr};
 ghost use Rattle.c_lex.specs.declared.fault.LexFault.TheVariants as fault;
 ghost use Rattle.c_lex.specs.Bytes.{Bytes};
+ghost use Rattle.c_lex.specs.Laws.{EachHasOutcome};
 ghost use Rattle.c_lex.specs.Lexemes.{Rise};
 ghost use Rattle.c_lex.specs.Tokens.{Outcome, Cuts, first_macros, Lexes, IsPlaced};
 
@@ -71,3 +72,8 @@ pub fn one_outcome()
     ensures { (bytes : Bytes) (r s : Outcome) → Lexes bytes r → Lexes bytes s → r ≡ s }
 {}
 
+/// The law that a source has an outcome, whatever its bytes and however long it is: its tokens, or a first fault that is
+/// not `NoMemory`.
+pub fn some_outcome()
+    ensures { EachHasOutcome }
+{}
