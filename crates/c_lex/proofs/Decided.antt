@@ -1,5 +1,5 @@
 -- What the reading asks of some bytes has an answer: where a mark stands first, what a constant is, what characters are.
-use Rattle.std.proofs.Common.{◌≡◌, ◌≢◌, ◌⊎◌, inl, inr, ⊎_elim, ℕ, zero, suc, ℤ, pos, ◌^◌, ◌<◌, ◌≤◌, Bool, true, false, List, [], ◌∷◌, length, drop, map, Option, Some, None, Ok, Err, refl, ap, ◌∙◌, subst, arith}
+use Rattle.std.proofs.Common.{◌≡◌, ◌≢◌, ◌⊎◌, inl, inr, ⊎_elim, ℕ, zero, suc, ℤ, pos, ◌^◌, ◌<◌, ◌≤◌, Bool, true, false, List, [], ◌∷◌, length, drop, map, Option, Some, None, Ok, Err, refl, ap, ◌∙◌, arith}
 use Rattle.std.specs.Char.{digit_value}
 use Rattle.std.specs.Option.{MatchOption}
 use Rattle.std.specs.Str.Parse.{AllDigits, digits_value}
@@ -31,8 +31,8 @@ abbrev pub FirstOrNowhere : (Bytes → Bool) → Bytes → Type 0
 FirstOrNowhere test z = ((n : ℕ) × IsFirstAt test z n) ⊎ IsNowhere test z
 
 -- the mark stands at no place before n, seen from one byte earlier
-not_earlier : (test : Bytes → Bool) (b : ℕ) (z : Bytes) (n : ℕ) → test (b ∷ z) ≡ false → ((m : ℕ) → m < n → test (drop m z) ≡ false)
-    → (m : ℕ) → m < suc n → test (drop m (b ∷ z)) ≡ false
+not_earlier : (test : Bytes → Bool) (b : ℕ) (z : Bytes) (n : ℕ) → test (b ∷ z) ≡ false
+    → ((m : ℕ) → m < n → test (drop m z) ≡ false) → (m : ℕ) → m < suc n → test (drop m (b ∷ z)) ≡ false
 not_earlier test b z n e f zero l = e
 not_earlier test b z n e f (suc m) l = f m (omega arith)
 
@@ -46,7 +46,8 @@ first_in_none test true e = inl (0, first_here test [] e)
 first_in_none test false e = inr (λ m l. ap test (drop_all m [] (omega arith)) ∙ e)
 
 -- the step of `first_or_nowhere` at a byte
-first_in_more : (test : Bytes → Bool) (b : ℕ) (z : Bytes) (x : Bool) → test (b ∷ z) ≡ x → FirstOrNowhere test z → FirstOrNowhere test (b ∷ z)
+first_in_more : (test : Bytes → Bool) (b : ℕ) (z : Bytes) (x : Bool) → test (b ∷ z) ≡ x → FirstOrNowhere test z
+    → FirstOrNowhere test (b ∷ z)
 first_in_more test b z true e h = inl (0, first_here test (b ∷ z) e)
 first_in_more test b z false e (inl h) =
     inl (suc h.0, record { within = omega (arith, h.1.within); holds = h.1.holds; first = not_earlier test b z h.0 e h.1.first })
@@ -60,24 +61,29 @@ first_or_nowhere test (b ∷ z) = first_in_more test b z (test (b ∷ z)) refl (
 
 -- ---- words
 
+-- a word is spelled as some keyword, or as none
+abbrev KeywordOrNot : Bytes → Type 0
+KeywordOrNot w = ((k : Keyword) × (w ≡ keyword_spelling k)) ⊎ ((k : Keyword) → w ≢ keyword_spelling k)
+
 -- the step of `keyword_or_not`, by what the table has for the word
-keyword_by : (w : Bytes) (o : Option Keyword) → MatchOption o ((k : Keyword) → w ≢ keyword_spelling k) (λ k. w ≡ keyword_spelling k)
-    → ((k : Keyword) × (w ≡ keyword_spelling k)) ⊎ ((k : Keyword) → w ≢ keyword_spelling k)
+keyword_by : (w : Bytes) (o : Option Keyword)
+    → MatchOption o ((k : Keyword) → w ≢ keyword_spelling k) (λ k. w ≡ keyword_spelling k) → KeywordOrNot w
 keyword_by w (Some k) h = inl (k, h)
 keyword_by w None h = inr h
 
 -- the same, at the word itself
-keyword_found : (w : Bytes) (o : Option Keyword) → lookup (map (λ entry. (entry.0.now, entry.1)) KEYWORDS) w ≡ o
-    → ((k : Keyword) × (w ≡ keyword_spelling k)) ⊎ ((k : Keyword) → w ≢ keyword_spelling k)
+keyword_found : (w : Bytes) (o : Option Keyword) → lookup (map (λ entry. (entry.0.now, entry.1)) KEYWORDS) w ≡ o → KeywordOrNot w
 keyword_found w o e =
-    keyword_by w o (looked_up keyword_spelling (map (λ entry. (entry.0.now, entry.1)) KEYWORDS) w o keywords_spelled keyword_listed e)
+    keyword_by w o
+    (looked_up keyword_spelling (map (λ entry. (entry.0.now, entry.1)) KEYWORDS) w o keywords_spelled keyword_listed e)
 
--- a word is spelled as some keyword, or as none
+-- so is each word
 pub keyword_or_not : (w : Bytes) → ((k : Keyword) × (w ≡ keyword_spelling k)) ⊎ ((k : Keyword) → w ≢ keyword_spelling k)
 keyword_or_not w = keyword_found w (lookup (map (λ entry. (entry.0.now, entry.1)) KEYWORDS) w) refl
 
 -- the step of `word_is`, by the value of a macro
-word_by : (m : Macros) (w : Bytes) (o : Option ℤ) → ((k : Keyword) → w ≢ keyword_spelling k) → lookup m w ≡ o → (kind : TokenKind) × IsWord m w kind
+word_by : (m : Macros) (w : Bytes) (o : Option ℤ) → ((k : Keyword) → w ≢ keyword_spelling k) → lookup m w ≡ o
+    → (kind : TokenKind) × IsWord m w kind
 word_by m w (Some v) n e = (Const v w, IsWord.macro n e)
 word_by m w None n e = (Name w, IsWord.name n e)
 
@@ -91,7 +97,8 @@ word_is m w = ⊎_elim (λ h. (Word h.0, IsWord.keyword h.0 h.1)) (λ n. word_by
 digits_or_not : (base : ℕ) (w : Bytes) → AllDigits base w ⊎ (AllDigits base w → ⊥)
 digits_or_not base [] = inl tt
 digits_or_not base (b ∷ w) =
-    ⊎_elim (λ l. ⊎_elim (λ h. inl (l, h)) (λ f. inr (λ h. f h.1)) (digits_or_not base w)) (λ l. inr (λ h. omega (arith, h.0))) (cases_lt (digit_value b) base)
+    ⊎_elim (λ l. ⊎_elim (λ h. inl (l, h)) (λ f. inr (λ h. f h.1)) (digits_or_not base w)) (λ l. inr (λ h. omega (arith, h.0)))
+    (cases_lt (digit_value b) base)
 
 -- some digits stand for a value, or for one that is too large
 some_digits : (base : ℕ) (w : Bytes) → 1 ≤ length w → AllDigits base w → (r : Constant) × AnswersDigits base w r
@@ -130,12 +137,14 @@ number_is at w = let a = constant_answered w in number_by at w a.0 a.1
 -- ---- literals
 
 -- the step of `character_is`, by what is read first between the quotes
-character_by : (at : ℕ) (w : Bytes) (o : Option FrontCharacter) → first_character 39 (between_quotes w) ≡ o → (r : Found) × IsCharacter at w r
+character_by : (at : ℕ) (w : Bytes) (o : Option FrontCharacter) → first_character 39 (between_quotes w) ≡ o
+    → (r : Found) × IsCharacter at w r
 character_by at w None e = (Err (fault.BadConstant at), IsCharacter.bad (λ v d. no_one 39 v (between_quotes w) e d))
 character_by at w (Some f) e =
-    ⊎_elim (λ l. (Ok (front.Take (Const (char_value f.value) w) (length w)), IsCharacter.value f.value (only_one 39 (between_quotes w) f e l)))
-    (λ n. (Err (fault.BadConstant at), IsCharacter.bad (λ v d. not_only 39 v (between_quotes w) f e n d)))
-    (cases_eq f.len (length (between_quotes w)))
+    let z = between_quotes w in
+    ⊎_elim (λ l. (Ok (front.Take (Const (char_value f.value) w) (length w)), IsCharacter.value f.value (only_one 39 z f e l)))
+    (λ n. (Err (fault.BadConstant at), IsCharacter.bad (λ v d. not_only 39 v z f e n d)))
+    (cases_eq f.len (length z))
 
 -- each whole character constant is a constant or a fault
 pub character_is : (at : ℕ) (w : Bytes) → (r : Found) × IsCharacter at w r
@@ -152,7 +161,8 @@ characters_by quote b z None e g = inr (λ values d. no_characters e (omega arit
 characters_by quote b z (Some f) e g =
     let i = first_is quote (b ∷ z) f e in
     let left = drop f.len (b ∷ z) in
-    ⊎_elim (λ h. inl (f.value ∷ h.0, Characters.more i.character h.1)) (λ n. inr (λ values d. let a = after_first d i.character in n a.0 a.2))
+    ⊎_elim (λ h. inl (f.value ∷ h.0, Characters.more i.character h.1))
+    (λ n. inr (λ values d. let a = after_first d i.character in n a.0 a.2))
     (g left (omega (arith, length-drop f.len (b ∷ z), i.some)))
 
 -- some bytes, no more than n, are a list of characters or none

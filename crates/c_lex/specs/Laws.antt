@@ -4,6 +4,6 @@ use Rattle.c_lex.specs.declared.fault.LexFault.TheVariants as fault
 use Rattle.c_lex.specs.Bytes.{Bytes}
 use Rattle.c_lex.specs.Tokens.{Outcome, Lexes}
 
--- each text, of whatever bytes and however long, has tokens or a first fault, and that fault isn't that there is no memory left
+-- each text, whatever its bytes and however long, has tokens or a first fault, which isn't out of memory
 abbrev pub EachHasOutcome : Type 0
 EachHasOutcome = (bytes : Bytes) → (r : Outcome) × Lexes bytes r × (r ≢ Err fault.NoMemory)
