@@ -34,3 +34,6 @@ pub mod DeclarationPassed
 pub mod StatementPassed
 pub mod ProgramPassed
 pub mod Openings
+pub mod TreeOrder
+pub mod ProgramOrder
+pub mod OwnTokens
