@@ -26,10 +26,13 @@ pub fn nesting_is_room()
 
 /// The same for what begins a program: the nesting at each opener and the room behind it make up the room at the begin, no
 /// nesting passes that room, and what nests nowhere deeper than a room begins a program with that room. So where tokens
-/// begin a program, but none with a room, one of their openers nests deeper than that room.
+/// begin a program, but none with a room, one of their openers nests deeper than that room. The nesting at a token is the
+/// same in every derivation of what begins a program, however much of it, and it is that of the program.
 pub fn front_nesting_is_room()
     ensures used { (r : ℕ) (a b : Tokens) (d : Viable r a b) → Along (λ o n. n + nesting (viable_openers d) o.0 ≡ r) (viable_openers d) (viable_rooms d) }
     ensures within { (r : ℕ) (a b : Tokens) (d : Viable r a b) (c : Tokens) → nesting (viable_openers d) c ≤ r }
     ensures enough { (r s : ℕ) (a b : Tokens) (d : Viable s a b) → All (λ o. nesting (viable_openers d) o.0 ≤ r) (viable_openers d) → Viable r a b }
     ensures deeper { (r s : ℕ) (a b : Tokens) (d : Viable s a b) → (Viable r a b → ⊥) → Any (λ o. r < nesting (viable_openers d) o.0) (viable_openers d) }
+    ensures one { (r s : ℕ) (a b e : Tokens) (d : Viable r a b) (f : Viable s a e) (c : Tokens) → length b < length c → length e < length c → nesting (viable_openers d) c ≡ nesting (viable_openers f) c }
+    ensures program { (r s : ℕ) (a e : Tokens) (p : List Outer) (d : Derives r a p) (f : Viable s a e) (c : Tokens) → length e < length c → nesting (program_openers d) c ≡ nesting (viable_openers f) c }
 {}
