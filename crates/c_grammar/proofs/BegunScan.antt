@@ -52,7 +52,8 @@ begun_starts (Begins.expression d) h = begun_starts d h
 begun_starts (Begins.comma d1 d2) h = starts d1
 
 mutual
-  begun_part : {N : Kind} {r : ℕ} {a b : Tokens} (d : Begins N r a b) (n : ℕ) (k : List Frame) → Free N k → Start r n (operand n k) a b (begun_openers d)
+  begun_part : {N : Kind} {r : ℕ} {a b : Tokens} (d : Begins N r a b) (n : ℕ) (k : List Frame) → Free N k
+      → Start r n (operand n k) a b (begun_openers d)
   begun_part {r = r} {a = a} Begins.none n k f = none r n (operand n k) a
   begun_part {r = r} {b = b} Begins.constant n k f = start_before refl refl (none r n (operated n k) b)
   begun_part {r = r} {b = b} Begins.name n k f = start_before refl refl (none r n (operated n k) b)
@@ -74,8 +75,10 @@ mutual
       let y = room d in
       whole (after (reads_from d [] (omega arith) n k tt) (ap (step (operated (n + r - m) k)) (lead_bump p up e)) (omega arith) (omega arith))
   begun_part (Begins.unary d) n k f = begun_part d n k tt
-  begun_part (Begins.bump_before {p = p} {up = up} e d) n k f = start_open (ap (step (operand n k)) (lead_bump p up e)) refl (begun_part d (suc n) k tt)
-  begun_part (Begins.prefix {p = p} {f = g} e d) n k f = start_open (prefix_opens _ g n k (lead_prefix p g e)) refl (begun_part d (suc n) k tt)
+  begun_part (Begins.bump_before {p = p} {up = up} e d) n k f =
+      start_open (ap (step (operand n k)) (lead_bump p up e)) refl (begun_part d (suc n) k tt)
+  begun_part (Begins.prefix {p = p} {f = g} e d) n k f =
+      start_open (prefix_opens _ g n k (lead_prefix p g e)) refl (begun_part d (suc n) k tt)
   begun_part (Begins.cast d) n k f = begun_part d n k tt
   begun_part {b = b} (Begins.cast_open {r = r}) n k f = start_open refl refl (none r (suc n) (operand (suc n) (group n ∷ k)) b)
   begun_part {b = b} (Begins.cast_type {r = r} {k = w} {ty = ty} e) n k f =
@@ -111,7 +114,8 @@ mutual
       let j = n + r - suc m in
       start_join (reads_from d1 [] (omega arith) n k f) (start_open (f j) refl (begun_part d2 (suc j) k tt)) (omega arith)
 
-  begun_argument_part : {r : ℕ} {a b : Tokens} (d : BeginsArgument r a b) (n : ℕ) (k : List Frame) → Start r n (operand n k) a b (begun_argument_openers d)
+  begun_argument_part : {r : ℕ} {a b : Tokens} (d : BeginsArgument r a b) (n : ℕ) (k : List Frame)
+      → Start r n (operand n k) a b (begun_argument_openers d)
   begun_argument_part (BeginsArgument.value d) n k = begun_part d n k tt
   begun_argument_part {r = r} {b = b} BeginsArgument.format n k = start_before refl refl (none r n (operated n k) b)
   begun_argument_part (BeginsArgument.address d) n k = start_open refl refl (begun_part d (suc n) k tt)
@@ -125,7 +129,8 @@ mutual
 
 -- ---- declarations
 
-begun_length_part : {r : ℕ} {a b : Tokens} (d : BeginsLength r a b) (n : ℕ) (k : List Frame) → Start r n (declared n k) a b (begun_length_openers d)
+begun_length_part : {r : ℕ} {a b : Tokens} (d : BeginsLength r a b) (n : ℕ) (k : List Frame)
+    → Start r n (declared n k) a b (begun_length_openers d)
 begun_length_part {r = r} {a = a} BeginsLength.none n k = none r n (declared n k) a
 begun_length_part {b = b} (BeginsLength.bracket {r = r}) n k = start_open refl refl (none r (suc n) (declared (suc n) (group n ∷ k)) b)
 begun_length_part {b = b} (BeginsLength.constant {r = r}) n k =
@@ -138,11 +143,14 @@ begun_elements_part (BeginsElements.last d) n k = begun_part d (suc n) (list n �
 begun_elements_part (BeginsElements.more d e) n k =
     start_join (after (finish (reads_from d (ending d) (omega arith) (suc n) (list n ∷ k) tt) (omega arith)) refl refl (omega arith)) (begun_elements_part e n k) refl
 
-begun_declarator_part : {r : ℕ} {a b : Tokens} (d : BeginsDeclarator r a b) (n : ℕ) (k : List Frame) → Start r n (declared n k) a b (begun_declarator_openers d)
+begun_declarator_part : {r : ℕ} {a b : Tokens} (d : BeginsDeclarator r a b) (n : ℕ) (k : List Frame)
+    → Start r n (declared n k) a b (begun_declarator_openers d)
 begun_declarator_part {r = r} {a = a} BeginsDeclarator.none n k = none r n (declared n k) a
-begun_declarator_part (BeginsDeclarator.scalar_start d) n k = start_before refl refl (start_before refl refl (begun_part d n (start n ∷ k) tt))
+begun_declarator_part (BeginsDeclarator.scalar_start d) n k =
+    start_before refl refl (start_before refl refl (begun_part d n (start n ∷ k) tt))
 begun_declarator_part (BeginsDeclarator.array d) n k = start_before refl refl (begun_length_part d n k)
-begun_declarator_part (BeginsDeclarator.array_start d) n k = whole (before refl refl (after (length_part d n k 0 (omega arith)) refl refl (omega arith)))
+begun_declarator_part (BeginsDeclarator.array_start d) n k =
+    whole (before refl refl (after (length_part d n k 0 (omega arith)) refl refl (omega arith)))
 begun_declarator_part (BeginsDeclarator.array_list d e) n k =
     start_before refl refl (start_join (length_part d n k 0 (omega arith)) (start_before refl refl (start_open refl refl (begun_elements_part e n (start n ∷ k)))) refl)
 begun_declarator_part (BeginsDeclarator.array_end d e) n k =
@@ -150,33 +158,39 @@ begun_declarator_part (BeginsDeclarator.array_end d e) n k =
     let q = elements_part e n (start n ∷ k) (length c) (omega arith) in
     whole (before refl refl (join (length_part d n k 0 (omega arith)) (before refl refl (close (opened refl refl c q.part) q.closes refl (omega arith))) refl))
 
-begun_declarators_part : {r : ℕ} {a b : Tokens} (d : BeginsDeclarators r a b) (n : ℕ) (k : List Frame) → Start r n (declared n k) a b (begun_declarators_openers d)
+begun_declarators_part : {r : ℕ} {a b : Tokens} (d : BeginsDeclarators r a b) (n : ℕ) (k : List Frame)
+    → Start r n (declared n k) a b (begun_declarators_openers d)
 begun_declarators_part (BeginsDeclarators.last d) n k = begun_declarator_part d n k
 begun_declarators_part (BeginsDeclarators.more d e) n k =
     let p = declarator_part d n k 0 (omega arith) in
     start_join (after p.part p.comma refl (omega arith)) (begun_declarators_part e n k) refl
 
-begun_vars_part : {r : ℕ} {a b : Tokens} (d : BeginsVars r a b) (σ : State) (n : ℕ) (k : List Frame) → ((t : Ty) → step σ (lead.Type t) ≡ declared n k)
-    → Start r n σ a b (begun_vars_openers d)
+begun_vars_part : {r : ℕ} {a b : Tokens} (d : BeginsVars r a b) (σ : State) (n : ℕ) (k : List Frame)
+    → ((t : Ty) → step σ (lead.Type t) ≡ declared n k) → Start r n σ a b (begun_vars_openers d)
 begun_vars_part {r = r} {a = a} BeginsVars.none σ n k o = none r n σ a
-begun_vars_part (BeginsVars.vars {k = w} {ty = ty} i d) σ n k o = start_before (ap (step σ) (lead_type w ty i) ∙ o ty) refl (begun_declarators_part d n k)
+begun_vars_part (BeginsVars.vars {k = w} {ty = ty} i d) σ n k o =
+    start_before (ap (step σ) (lead_type w ty i) ∙ o ty) refl (begun_declarators_part d n k)
 begun_vars_part (BeginsVars.end d) σ n k o = whole (vars_part d σ n k o 0 (omega arith))
 
 -- ---- statements
 
-begun_clause_part : {r : ℕ} {a b : Tokens} (d : BeginsClause r a b) (n : ℕ) (k : List Frame) → Start r (suc n) (operand (suc n) (first n ∷ k)) a b (begun_clause_openers d)
+begun_clause_part : {r : ℕ} {a b : Tokens} (d : BeginsClause r a b) (n : ℕ) (k : List Frame)
+    → Start r (suc n) (operand (suc n) (first n ∷ k)) a b (begun_clause_openers d)
 begun_clause_part (BeginsClause.act d) n k = begun_part d (suc n) (first n ∷ k) (λ j. refl)
 begun_clause_part (BeginsClause.vars d) n k = begun_vars_part d (operand (suc n) (first n ∷ k)) (suc n) (first n ∷ k) (λ t. refl)
 begun_clause_part (BeginsClause.end d) n k = whole (clause_part d n k 0 (omega arith))
 
 mutual
-  begun_statement_part : {r : ℕ} {a b : Tokens} (d : BeginsStatement r a b) (σ : State) (n : ℕ) (k : List Frame) → Opens σ n k → Start r n σ a b (begun_statement_openers d)
+  begun_statement_part : {r : ℕ} {a b : Tokens} (d : BeginsStatement r a b) (σ : State) (n : ℕ) (k : List Frame)
+      → Opens σ n k → Start r n σ a b (begun_statement_openers d)
   begun_statement_part {a = a} {b = b} (BeginsStatement.act d) σ n k g = start_enter σ (begun_part d n (act ∷ k) (λ j. refl)) same
     where
       same : length b < length a → step σ (front a) ≡ at_operand (front a) n (act ∷ k)
       same h = let s = begun_starts d h in g (front a) (starting_no_else (front a) s) ∙ fresh_operand (front a) n k s
-  begun_statement_part (BeginsStatement.block d) σ n k g = start_open (g lead.OpenBrace refl) refl (begun_items_part d (fresh (suc n) (block n ∷ k)) n k (λ l i. refl))
-  begun_statement_part {b = b} (BeginsStatement.if_word {r = r}) σ n k g = start_open (g lead.If refl) refl (none r (suc n) (head of_test (suc n) (branch n ∷ k)) b)
+  begun_statement_part (BeginsStatement.block d) σ n k g =
+      start_open (g lead.OpenBrace refl) refl (begun_items_part d (fresh (suc n) (block n ∷ k)) n k (λ l i. refl))
+  begun_statement_part {b = b} (BeginsStatement.if_word {r = r}) σ n k g =
+      start_open (g lead.If refl) refl (none r (suc n) (head of_test (suc n) (branch n ∷ k)) b)
   begun_statement_part (BeginsStatement.if_test d) σ n k g =
       start_open (g lead.If refl) refl (start_open refl refl (begun_part d (suc (suc n)) (test (suc n) ∷ branch n ∷ k) (λ j. refl)))
   begun_statement_part (BeginsStatement.if_then d e) σ n k g =
@@ -187,7 +201,8 @@ mutual
       let s = after p.part (p.goes_on lead.Else (λ j. absurd (cc (j)))) refl (omega arith) in
       start_open (g lead.If refl) refl
       (start_join (join (test_part refl refl d 0 (omega arith)) s refl) (begun_statement_part f (fresh (suc n) (body n ∷ k)) (suc n) (body n ∷ k) (λ l i. refl)) refl)
-  begun_statement_part {b = b} (BeginsStatement.while_word {r = r}) σ n k g = start_open (g lead.While refl) refl (none r (suc n) (head of_test (suc n) (body n ∷ k)) b)
+  begun_statement_part {b = b} (BeginsStatement.while_word {r = r}) σ n k g =
+      start_open (g lead.While refl) refl (none r (suc n) (head of_test (suc n) (body n ∷ k)) b)
   begun_statement_part (BeginsStatement.while_test d) σ n k g =
       start_open (g lead.While refl) refl (start_open refl refl (begun_part d (suc (suc n)) (test (suc n) ∷ body n ∷ k) (λ j. refl)))
   begun_statement_part (BeginsStatement.while d e) σ n k g =
@@ -207,8 +222,10 @@ mutual
       let t = reads_from e (ending e) (omega arith) (suc (suc n)) (again (suc n) ∷ k) (λ j. refl) in
       let q = before (p.goes_on lead.While (λ j. refl)) refl (close (opened refl refl (ending e) t) refl refl (omega arith)) in
       start_open (g lead.Do refl) refl (whole (join p.part q refl))
-  begun_statement_part {b = b} (BeginsStatement.for_word {r = r}) σ n k g = start_open (g lead.For refl) refl (none r (suc n) (head of_clauses (suc n) (body n ∷ k)) b)
-  begun_statement_part (BeginsStatement.for_first d) σ n k g = start_open (g lead.For refl) refl (start_open refl refl (begun_clause_part d (suc n) (body n ∷ k)))
+  begun_statement_part {b = b} (BeginsStatement.for_word {r = r}) σ n k g =
+      start_open (g lead.For refl) refl (none r (suc n) (head of_clauses (suc n) (body n ∷ k)) b)
+  begun_statement_part (BeginsStatement.for_first d) σ n k g =
+      start_open (g lead.For refl) refl (start_open refl refl (begun_clause_part d (suc n) (body n ∷ k)))
   begun_statement_part (BeginsStatement.for_test d e) σ n k g =
       let i = clause_part d (suc n) (body n ∷ k) 0 (omega arith) in
       start_open (g lead.For refl) refl (start_open refl refl (start_join i (begun_part e (suc (suc n)) (second (suc n) ∷ body n ∷ k) (λ j. refl)) refl))
@@ -227,12 +244,14 @@ mutual
       let s = close (opened refl refl c (join (join i (close p.part p.semicolon refl (omega arith)) refl) t.part refl)) t.paren refl (omega arith) in
       start_open (g lead.For refl) refl (start_join s (begun_statement_part v (fresh (suc n) (body n ∷ k)) (suc n) (body n ∷ k) (λ l j. refl)) refl)
   begun_statement_part (BeginsStatement.give d) σ n k g = start_before (g lead.Return refl) refl (begun_part d n (act ∷ k) (λ j. refl))
-  begun_statement_part {r = r} {b = b} BeginsStatement.break σ n k g = start_before (g lead.Break refl) refl (none r n (operated n (act ∷ k)) b)
-  begun_statement_part {r = r} {b = b} BeginsStatement.continue σ n k g = start_before (g lead.Continue refl) refl (none r n (operated n (act ∷ k)) b)
+  begun_statement_part {r = r} {b = b} BeginsStatement.break σ n k g =
+      start_before (g lead.Break refl) refl (none r n (operated n (act ∷ k)) b)
+  begun_statement_part {r = r} {b = b} BeginsStatement.continue σ n k g =
+      start_before (g lead.Continue refl) refl (none r n (operated n (act ∷ k)) b)
   begun_statement_part (BeginsStatement.end d) σ n k g = let p = statement_part d σ n k g 0 (omega arith) in whole p.part
 
-  begun_items_part : {r : ℕ} {a b : Tokens} (d : BeginsItems r a b) (σ : State) (n : ℕ) (k : List Frame) → Opens σ (suc n) (block n ∷ k)
-      → Start r (suc n) σ a b (begun_items_openers d)
+  begun_items_part : {r : ℕ} {a b : Tokens} (d : BeginsItems r a b) (σ : State) (n : ℕ) (k : List Frame)
+      → Opens σ (suc n) (block n ∷ k) → Start r (suc n) σ a b (begun_items_openers d)
   begun_items_part (BeginsItems.vars d) σ n k g = begun_vars_part d σ (suc n) (block n ∷ k) (λ t. g (lead.Type t) refl)
   begun_items_part (BeginsItems.statement d) σ n k g = begun_statement_part d σ (suc n) (block n ∷ k) g
   begun_items_part (BeginsItems.more_vars d e) σ n k g =
@@ -244,26 +263,31 @@ mutual
 
 -- ---- programs
 
-begun_parameter_part : {r : ℕ} {a b : Tokens} (d : BeginsParameter r a b) (n : ℕ) (k : List Frame) → Start r n (declared n k) a b (begun_parameter_openers d)
+begun_parameter_part : {r : ℕ} {a b : Tokens} (d : BeginsParameter r a b) (n : ℕ) (k : List Frame)
+    → Start r n (declared n k) a b (begun_parameter_openers d)
 begun_parameter_part {r = r} {a = a} BeginsParameter.none n k = none r n (declared n k) a
 begun_parameter_part {r = r} {b = b} (BeginsParameter.type {k = w} {ty = ty} i) n k =
     start_before (ap (step (declared n k)) (lead_type w ty i)) refl (none r n (declared n k) b)
 begun_parameter_part (BeginsParameter.array {k = w} {ty = ty} i d) n k =
     start_before (ap (step (declared n k)) (lead_type w ty i)) refl (start_before refl refl (begun_length_part d n k))
 
-begun_parameters_part : {r : ℕ} {a b : Tokens} (d : BeginsParameters r a b) (n : ℕ) (k : List Frame) → Start r n (declared n k) a b (begun_parameters_openers d)
+begun_parameters_part : {r : ℕ} {a b : Tokens} (d : BeginsParameters r a b) (n : ℕ) (k : List Frame)
+    → Start r n (declared n k) a b (begun_parameters_openers d)
 begun_parameters_part (BeginsParameters.last d) n k = begun_parameter_part d n k
 begun_parameters_part (BeginsParameters.more d e) n k =
     start_join (after (parameter_part d n k 0 (omega arith)) refl refl (omega arith)) (begun_parameters_part e n k) refl
 
-begun_signature_part : {r : ℕ} {a b : Tokens} (d : BeginsSignature r a b) (n : ℕ) (k : List Frame) → Start r n (declared n k) a b (begun_signature_openers d)
+begun_signature_part : {r : ℕ} {a b : Tokens} (d : BeginsSignature r a b) (n : ℕ) (k : List Frame)
+    → Start r n (declared n k) a b (begun_signature_openers d)
 begun_signature_part {r = r} {b = b} BeginsSignature.void n k = start_before refl refl (none r n (declared n k) b)
 begun_signature_part (BeginsSignature.parameters d) n k = begun_parameters_part d n k
 
-begun_external_part : {r : ℕ} {a b : Tokens} (d : BeginsExternal r a b) (σ : State) → Opens σ 0 [] → Start r 0 σ a b (begun_external_openers d)
+begun_external_part : {r : ℕ} {a b : Tokens} (d : BeginsExternal r a b) (σ : State) → Opens σ 0 []
+    → Start r 0 σ a b (begun_external_openers d)
 begun_external_part {r = r} {a = a} BeginsExternal.none σ g = none r 0 σ a
 begun_external_part (BeginsExternal.vars d) σ g = begun_vars_part d σ 0 [] (λ t. g (lead.Type t) refl)
-begun_external_part {r = r} {b = b} (BeginsExternal.result {k = w} {ret = ret} i) σ g = start_before (result_opens w ret σ g i) refl (none r 0 (declared 0 []) b)
+begun_external_part {r = r} {b = b} (BeginsExternal.result {k = w} {ret = ret} i) σ g =
+    start_before (result_opens w ret σ g i) refl (none r 0 (declared 0 []) b)
 begun_external_part {r = r} {b = b} (BeginsExternal.name {k = w} {ret = ret} i) σ g =
     start_before (result_opens w ret σ g i) refl (start_before refl refl (none r 0 (declared 0 []) b))
 begun_external_part (BeginsExternal.signature {k = w} {ret = ret} i d) σ g =
@@ -278,6 +302,7 @@ begun_external_part (BeginsExternal.body {k = w} {ret = ret} i d e) σ g =
     start_join (before (result_opens w ret σ g i) refl (before refl refl p)) (start_open refl refl (begun_items_part e (fresh 1 (block 0 ∷ [])) 0 [] (λ l j. refl))) refl
 begun_external_part (BeginsExternal.end d) σ g = let p = external_part d σ g 0 (omega arith) in whole p.part
 
-pub viable_part : {r : ℕ} {a b : Tokens} (d : Viable r a b) (σ : State) → Opens σ 0 [] → Start r 0 σ a b (viable_openers d)
+pub viable_part : {r : ℕ} {a b : Tokens} (d : Viable r a b) (σ : State) → Opens σ 0 []
+    → Start r 0 σ a b (viable_openers d)
 viable_part (Viable.external d) σ g = begun_external_part d σ g
 viable_part (Viable.more d e) σ g = let p = external_part d σ g 0 (omega arith) in start_join p.part (viable_part e p.final p.opens) refl

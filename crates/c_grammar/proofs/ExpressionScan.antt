@@ -21,7 +21,8 @@ abbrev pub Free : Kind → List Frame → Type 0
 Free Expression k = (n : ℕ) → by_comma k n ≡ operand (suc n) k
 Free _ k = Unit {0}
 
-pub prefix_opens : (l : Lead) (f : UnOp) (n : ℕ) (k : List Frame) → prefix_at l ≡ Some f → at_operand l n k ≡ operand (suc n) k
+pub prefix_opens : (l : Lead) (f : UnOp) (n : ℕ) (k : List Frame) → prefix_at l ≡ Some f
+    → at_operand l n k ≡ operand (suc n) k
 prefix_opens (lead.Prefix g) f n k e = refl
 prefix_opens (lead.Binary g) f n k e = refl
 prefix_opens _ f n k e = absurd (cc (e))
@@ -34,8 +35,9 @@ pub record Passed (r z n : ℕ) (k : List Frame) (a b : Tokens) (l : List Opener
   pub part : Part r r z n (operand n k) a (operated until k) b l
 
 mutual
-  pub reads_part : {N : Kind} {r m : ℕ} {a b : Tokens} {t : Tree} (d : Reads N r a m b t) (end : Tokens) → length end ≤ length b → (n i : ℕ) → i + m ≡ n + r
-      → (k : List Frame) → Free N k → Part r m (length end) n (operand n k) a (operated i k) b (openers d end)
+  pub reads_part : {N : Kind} {r m : ℕ} {a b : Tokens} {t : Tree} (d : Reads N r a m b t) (end : Tokens)
+      → length end ≤ length b → (n i : ℕ) → i + m ≡ n + r → (k : List Frame) → Free N k
+      → Part r m (length end) n (operand n k) a (operated i k) b (openers d end)
   reads_part {r = r} {b = b} Reads.constant end h n i x k f =
       at (ap (λ j. operated j k) (omega arith)) (before refl refl (nothing r (length end) n (operated n k) b h))
   reads_part {r = r} {b = b} Reads.name end h n i x k f =
@@ -102,7 +104,8 @@ mutual
       join (reads_part d1 end (omega arith) n j (omega arith) k f)
       (opened (f j) refl end (reads_part d2 end h (suc j) i (omega arith) k tt)) (omega arith)
 
-  pub argument_part : {r : ℕ} {a b : Tokens} {g : Given} (d : Argument r a b g) (n : ℕ) (k : List Frame) (z : ℕ) → z ≤ length b → Passed r z n k a b (argument_openers d)
+  pub argument_part : {r : ℕ} {a b : Tokens} {g : Given} (d : Argument r a b g) (n : ℕ) (k : List Frame) (z : ℕ)
+      → z ≤ length b → Passed r z n k a b (argument_openers d)
   argument_part {r = r} {b = b} (Argument.value {m = m} d) n k z h =
       let y = room d in
       record { until = n + r - m; part = finish (reads_part d b (omega arith) n (n + r - m) (omega arith) k tt) h }
@@ -111,8 +114,8 @@ mutual
       let y = room d in
       record { until = suc n + r - m; part = finish (opened refl refl b (reads_part d b (omega arith) (suc n) (suc n + r - m) (omega arith) k tt)) h }
 
-  pub arguments_part : {r : ℕ} {a b : Tokens} {gs : List Given} (d : Arguments r a b gs) (n : ℕ) (k : List Frame) (z : ℕ) → z ≤ length b
-      → Passed r z (suc n) (call n ∷ k) a b (arguments_openers d)
+  pub arguments_part : {r : ℕ} {a b : Tokens} {gs : List Given} (d : Arguments r a b gs) (n : ℕ) (k : List Frame) (z : ℕ)
+      → z ≤ length b → Passed r z (suc n) (call n ∷ k) a b (arguments_openers d)
   arguments_part (Arguments.last d) n k z h = argument_part d (suc n) (call n ∷ k) z h
   arguments_part (Arguments.more d e) n k z h =
       let y = arguments_shorter e in

@@ -16,18 +16,21 @@ use Rattle.c_grammar.proofs.ProgramFronts.{tail_clause, tail_optional, tail_stat
 
 -- ---- tokens and the text that they cover
 
-end_append : (t : TokenKind × Span) (a : Tokens) (u : TokenKind × Span) (b : Tokens) → end_of t (a ++ u ∷ b) ≡ end_of u b
+end_append : (t : TokenKind × Span) (a : Tokens) (u : TokenKind × Span) (b : Tokens)
+    → end_of t (a ++ u ∷ b) ≡ end_of u b
 end_append t [] u b = refl
 end_append t (v ∷ a) u b = end_append v a u b
 
 -- the tokens of two texts, with others between them
-covers_between : {x y : Tokens} {s e : Span} → Covers x s → (z : Tokens) → Covers y e → Covers (x ++ (z ++ y)) (over s e)
+covers_between : {x y : Tokens} {s e : Span} → Covers x s → (z : Tokens) → Covers y e
+    → Covers (x ++ (z ++ y)) (over s e)
 covers_between {x} {y} c z d = record {
   first = c.first;
   others = c.others ++ ((z ++ d.first ∷ d.others));
   consists = ap (λ q. q ++ (z ++ y)) c.consists ∙ ap (λ q. c.first ∷ (c.others ++ (z ++ q))) d.consists;
   begins = c.begins;
-  ends = ap (end_of c.first) (sym (append_assoc c.others z (d.first ∷ d.others))) ∙ end_append c.first (c.others ++ z) d.first d.others ∙ d.ends;
+  ends =
+      ap (end_of c.first) (sym (append_assoc c.others z (d.first ∷ d.others))) ∙ end_append c.first (c.others ++ z) d.first d.others ∙ d.ends;
 }
 
 -- the tokens before a tail
@@ -41,7 +44,8 @@ before (later {x = x} t) = let p = before t in record { own = x ∷ p.own; split
 
 -- a token alone
 alone : (k : TokenKind) (s : Span) (a : Tokens) → OwnTokens ((k, s) ∷ a) a s
-alone k s a = record { own = (k, s) ∷ []; splits = refl; covers = record { first = (k, s); others = []; consists = refl; begins = refl; ends = refl } }
+alone k s a =
+    record { own = (k, s) ∷ []; splits = refl; covers = record { first = (k, s); others = []; consists = refl; begins = refl; ends = refl } }
 
 -- two parts, with other tokens between them
 pair : {a b c d : Tokens} {s e : Span} → OwnTokens a b s → Tail b c → OwnTokens c d e → OwnTokens a d (over s e)
@@ -73,7 +77,8 @@ wrapped_twice s e tree.hole = refl
 wrapped_twice s e (tree.hole_after t) = refl
 
 -- what is read has a text, which parentheses widen
-text_wrapped : {N : Part} {r m : ℕ} {a b : Tokens} {t : Tree} (s : Span) → Reads N r a m b t → span_of (wrapped s t) ≡ s
+text_wrapped : {N : Part} {r m : ℕ} {a b : Tokens} {t : Tree} (s : Span) → Reads N r a m b t
+    → span_of (wrapped s t) ≡ s
 text_wrapped s Reads.constant = refl
 text_wrapped s Reads.name = refl
 text_wrapped s (Reads.index d) = refl
@@ -103,7 +108,8 @@ owns (Reads.name {a = a} {w = w} {s = s}) = alone (kind.Name w) s a
 owns (Reads.index {a = a} {w = w} {s = s} d) = pair (alone _ s _) (later (tail_reads d)) (alone _ _ _)
 owns (Reads.call_bare {s = s}) = pair (alone _ s _) (later all) (alone _ _ _)
 owns (Reads.call {s = s} d) = pair (alone _ s _) (later (tail_arguments d)) (alone _ _ _)
-owns {a = a} {b = b} (Reads.paren {o = o} {e = e} {t = t} d) = subst (OwnTokens a b) (sym (text_wrapped (over o e) d)) (pair (alone _ o _) (tail_reads d) (alone _ e _))
+owns {a = a} {b = b} (Reads.paren {o = o} {e = e} {t = t} d) =
+    subst (OwnTokens a b) (sym (text_wrapped (over o e) d)) (pair (alone _ o _) (tail_reads d) (alone _ e _))
 owns (Reads.postfix d) = owns d
 owns (Reads.bump_after {s = s} e d) = pair (owns d) all (alone _ s _)
 owns (Reads.unary d) = owns d
@@ -132,9 +138,11 @@ code_owns (Statement.empty {s = s}) = alone _ s _
 code_owns (Statement.act {e = e} d) = pair (owns d) all (alone _ e _)
 code_owns (Statement.block {s = s} {e = e} d) = pair (alone _ s _) (tail_items d) (alone _ e _)
 code_owns (Statement.if_then {s = s} d f) = pair (alone _ s _) (later (next (tail_reads d))) (code_owns f)
-code_owns (Statement.if_else {s = s} d f g) = pair (alone _ s _) (later (join (next (tail_reads d)) (next (tail_statement f)))) (code_owns g)
+code_owns (Statement.if_else {s = s} d f g) =
+    pair (alone _ s _) (later (join (next (tail_reads d)) (next (tail_statement f)))) (code_owns g)
 code_owns (Statement.while {s = s} d f) = pair (alone _ s _) (later (next (tail_reads d))) (code_owns f)
-code_owns (Statement.do_while {s = s} {q = q} d f) = pair (alone _ s _) (join (next (next (tail_statement d))) (next (tail_reads f))) (alone _ q _)
+code_owns (Statement.do_while {s = s} {q = q} d f) =
+    pair (alone _ s _) (join (next (next (tail_statement d))) (next (tail_reads f))) (alone _ q _)
 code_owns (Statement.for {s = s} d e f g) =
     pair (alone _ s _) (later (join (tail_clause d) (join (next (tail_optional e)) (next (tail_optional f))))) (code_owns g)
 code_owns (Statement.give {s = s} {e = e} d) = pair (alone _ s _) (tail_optional d) (alone _ e _)
@@ -155,5 +163,6 @@ same_text (tree.break s) = refl
 same_text (tree.continue s) = refl
 
 -- a statement has tokens of its own
-pub statement_owns : (o : Bool) (r : ℕ) (a b : Tokens) (x : Code) → Statement o r a b x → OwnTokens a b (span_of_code x)
+pub statement_owns : (o : Bool) (r : ℕ) (a b : Tokens) (x : Code) → Statement o r a b x
+    → OwnTokens a b (span_of_code x)
 statement_owns o r a b x d = subst (OwnTokens a b) (same_text x) (code_owns d)

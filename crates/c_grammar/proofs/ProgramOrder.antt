@@ -25,7 +25,8 @@ option_spread (OptionIn.present x) h g = OptionIn.present (spread x h g)
 
 variables_spread : {i j k l : ℕ} {vs : List Variable} → VariablesIn i j vs → k ≤ i → j ≤ l → VariablesIn k l vs
 variables_spread VariablesIn.none h g = VariablesIn.none
-variables_spread (VariablesIn.more {m = m} w x y) h g = VariablesIn.more {m = m} (within_spread w h (omega arith)) x (variables_spread y (omega arith) g)
+variables_spread (VariablesIn.more {m = m} w x y) h g =
+    VariablesIn.more {m = m} (within_spread w h (omega arith)) x (variables_spread y (omega arith) g)
 
 first_spread : {i j k l : ℕ} {f : First} → FirstIn i j f → k ≤ i → j ≤ l → FirstIn k l f
 first_spread FirstIn.none h g = FirstIn.none
@@ -79,11 +80,13 @@ record Bracketed (from end : ℕ) (b : Tokens) (e : Span) : Type 0 where
   order : from < e.to
   rise : Rise e.to end b
 
-length_placed : {r : ℕ} {a b : Tokens} {n : Option ℤ} {e : Span} → Length r a b n e → (from end : ℕ) → Rise from end a → Bracketed from end b e
+length_placed : {r : ℕ} {a b : Tokens} {n : Option ℤ} {e : Span} → Length r a b n e → (from end : ℕ) → Rise from end a
+    → Bracketed from end b e
 length_placed Length.bare from end h = let g = h.2 in record { order = omega arith; rise = g.2 }
 length_placed Length.constant from end h = let g = h.2 in let l = g.2 in record { order = omega arith; rise = l.2 }
 
-elements_placed : {r : ℕ} {a b : Tokens} {ts : List Tree} → Elements r a b ts → (from end : ℕ) → Rise from end a → Placed (λ i j. TreesIn i j ts) from end b
+elements_placed : {r : ℕ} {a b : Tokens} {ts : List Tree} → Elements r a b ts → (from end : ℕ) → Rise from end a
+    → Placed (λ i j. TreesIn i j ts) from end b
 elements_placed (Elements.last d) from end h =
     let p = tree_placed d from end h in
     record { at = p.at; order = p.order; part = TreesIn.more {m = p.at} p.part TreesIn.none; rise = p.rise }
@@ -105,7 +108,8 @@ record VariableIn (from to : ℕ) (v : Variable) : Type 0 where
   text : Within from to v.span
   start : InitialIn v.span.to to v.start
 
-declarator_placed : {r : ℕ} {a b : Tokens} {v : Variable} → Declarator r a b v → (from end : ℕ) → Rise from end a → Placed (λ i j. VariableIn i j v) from end b
+declarator_placed : {r : ℕ} {a b : Tokens} {v : Variable} → Declarator r a b v → (from end : ℕ) → Rise from end a
+    → Placed (λ i j. VariableIn i j v) from end b
 declarator_placed (Declarator.scalar {s = s}) from end h =
     record {
       at = s.to;
@@ -153,8 +157,8 @@ declarator_placed (Declarator.array_list {s = s} {e = e} {o = o} {p = z} {q = c}
       rise = k.2;
     }
 
-declarators_placed : {r : ℕ} {a b : Tokens} {vs : List Variable} → Declarators r a b vs → (from end : ℕ) → Rise from end a
-    → Placed (λ i j. VariablesIn i j vs) from end b
+declarators_placed : {r : ℕ} {a b : Tokens} {vs : List Variable} → Declarators r a b vs → (from end : ℕ)
+    → Rise from end a → Placed (λ i j. VariablesIn i j vs) from end b
 declarators_placed (Declarators.last d) from end h =
     let p = declarator_placed d from end h in
     record { at = p.at; order = p.order; part = VariablesIn.more {m = p.at} p.part.text p.part.start VariablesIn.none; rise = p.rise }
@@ -171,8 +175,8 @@ declarators_placed (Declarators.more {s = s} d e) from end h =
       rise = q.rise;
     }
 
-vars_placed : {r : ℕ} {a b : Tokens} {ty : Ty} {vs : List Variable} → Vars r a b ty vs → (from end : ℕ) → Rise from end a
-    → Placed (λ i j. VariablesIn i j vs) from end b
+vars_placed : {r : ℕ} {a b : Tokens} {ty : Ty} {vs : List Variable} → Vars r a b ty vs → (from end : ℕ)
+    → Rise from end a → Placed (λ i j. VariablesIn i j vs) from end b
 vars_placed (Vars.vars {s = s} {e = e} i d) from end h =
     let p = declarators_placed d s.to end h.2 in
     let x = p.order in
@@ -181,7 +185,8 @@ vars_placed (Vars.vars {s = s} {e = e} i d) from end h =
 
 -- ---- statements
 
-clause_placed : {r : ℕ} {a b : Tokens} {i : First} → Clause r a b i → (from end : ℕ) → Rise from end a → Placed (λ k j. FirstIn k j i) from end b
+clause_placed : {r : ℕ} {a b : Tokens} {i : First} → Clause r a b i → (from end : ℕ) → Rise from end a
+    → Placed (λ k j. FirstIn k j i) from end b
 clause_placed (Clause.empty {e = e}) from end h = record { at = e.to; order = omega arith; part = FirstIn.none; rise = h.2 }
 clause_placed (Clause.act {e = e} d) from end h =
     let p = tree_placed d from end h in
@@ -192,14 +197,16 @@ clause_placed (Clause.vars d) from end h =
     let p = vars_placed d from end h in
     record { at = p.at; order = p.order; part = FirstIn.vars p.part; rise = p.rise }
 
-optional_placed : {r : ℕ} {a b : Tokens} {t : Option Tree} → Optional r a b t → (from end : ℕ) → Rise from end a → Placed (λ i j. OptionIn i j t) from end b
+optional_placed : {r : ℕ} {a b : Tokens} {t : Option Tree} → Optional r a b t → (from end : ℕ) → Rise from end a
+    → Placed (λ i j. OptionIn i j t) from end b
 optional_placed Optional.absent from end h = record { at = from; order = omega arith; part = OptionIn.absent; rise = h }
 optional_placed (Optional.present d) from end h =
     let p = tree_placed d from end h in
     record { at = p.at; order = p.order; part = OptionIn.present p.part; rise = p.rise }
 
 mutual
-  code_placed : {o : Bool} {r : ℕ} {a b : Tokens} {x : Code} → Statement o r a b x → (from end : ℕ) → Rise from end a → Placed (λ i j. CodeIn i j x) from end b
+  code_placed : {o : Bool} {r : ℕ} {a b : Tokens} {x : Code} → Statement o r a b x → (from end : ℕ) → Rise from end a
+      → Placed (λ i j. CodeIn i j x) from end b
   code_placed (Statement.empty {s = s}) from end h =
       record { at = s.to; order = omega arith; part = CodeIn.empty (record { begins = h.0; covers = h.1; ends = omega arith }); rise = h.2 }
   code_placed (Statement.act {e = e} d) from end h =
@@ -326,7 +333,8 @@ mutual
       let g = h.2 in
       record { at = e.to; order = omega arith; part = CodeIn.continue (record { begins = h.0; covers = omega arith; ends = omega arith }); rise = g.2 }
 
-  body_placed : {r : ℕ} {a b : Tokens} {x : Body} → Items r a b x → (from end : ℕ) → Rise from end a → Placed (λ i j. BodyIn i j x) from end b
+  body_placed : {r : ℕ} {a b : Tokens} {x : Body} → Items r a b x → (from end : ℕ) → Rise from end a
+      → Placed (λ i j. BodyIn i j x) from end b
   body_placed Items.none from end h = record { at = from; order = omega arith; part = BodyIn.done; rise = h }
   body_placed (Items.vars d e) from end h =
       let p = vars_placed d from end h in
@@ -343,7 +351,8 @@ mutual
 
 -- ---- programs
 
-parameter_placed : {r : ℕ} {a b : Tokens} {x : Param} → Parameter r a b x → (from end : ℕ) → Rise from end a → Placed (λ i j. Within i j x.span) from end b
+parameter_placed : {r : ℕ} {a b : Tokens} {x : Param} → Parameter r a b x → (from end : ℕ) → Rise from end a
+    → Placed (λ i j. Within i j x.span) from end b
 parameter_placed (Parameter.scalar {o = o} {s = s} i) from end h =
     let g = h.2 in
     record { at = s.to; order = omega arith; part = record { begins = omega arith; covers = g.1; ends = omega arith }; rise = g.2 }
@@ -353,7 +362,8 @@ parameter_placed (Parameter.array {o = o} {s = s} {e = e} i d) from end h =
     let x = p.order in
     record { at = e.to; order = omega arith; part = record { begins = omega arith; covers = omega arith; ends = omega arith }; rise = p.rise }
 
-parameters_placed : {r : ℕ} {a b : Tokens} {xs : List Param} → Parameters r a b xs → (from end : ℕ) → Rise from end a → Placed (λ i j. ParamsIn i j xs) from end b
+parameters_placed : {r : ℕ} {a b : Tokens} {xs : List Param} → Parameters r a b xs → (from end : ℕ) → Rise from end a
+    → Placed (λ i j. ParamsIn i j xs) from end b
 parameters_placed (Parameters.last d) from end h =
     let p = parameter_placed d from end h in
     record { at = p.at; order = p.order; part = ParamsIn.more {m = p.at} p.part ParamsIn.none; rise = p.rise }
@@ -365,12 +375,14 @@ parameters_placed (Parameters.more {s = s} d e) from end h =
     let y = q.order in
     record { at = q.at; order = omega arith; part = ParamsIn.more {m = p.at} p.part (params_spread q.part (omega arith) (omega arith)); rise = q.rise }
 
-signature_placed : {r : ℕ} {a b : Tokens} {xs : List Param} → Signature r a b xs → (from end : ℕ) → Rise from end a → Placed (λ i j. ParamsIn i j xs) from end b
+signature_placed : {r : ℕ} {a b : Tokens} {xs : List Param} → Signature r a b xs → (from end : ℕ) → Rise from end a
+    → Placed (λ i j. ParamsIn i j xs) from end b
 signature_placed Signature.empty from end h = record { at = from; order = omega arith; part = ParamsIn.none; rise = h }
 signature_placed (Signature.void {s = s}) from end h = record { at = s.to; order = omega arith; part = ParamsIn.none; rise = h.2 }
 signature_placed (Signature.parameters d) from end h = parameters_placed d from end h
 
-external_placed : {r : ℕ} {a b : Tokens} {x : Outer} → External r a b x → (from end : ℕ) → Rise from end a → Placed (λ i j. OuterIn i j x) from end b
+external_placed : {r : ℕ} {a b : Tokens} {x : Outer} → External r a b x → (from end : ℕ) → Rise from end a
+    → Placed (λ i j. OuterIn i j x) from end b
 external_placed (External.vars d) from end h =
     let p = vars_placed d from end h in
     record { at = p.at; order = p.order; part = OuterIn.vars p.part; rise = p.rise }
@@ -406,9 +418,11 @@ external_placed (External.definition {o = o} {s = s} {p = p} {e = e} {q = q} {z 
       rise = w.2;
     }
 
-program_placed : {r : ℕ} {a : Tokens} {p : List Outer} → Derives r a p → (from end : ℕ) → Rise from end a → ProgramIn from end p
+program_placed : {r : ℕ} {a : Tokens} {p : List Outer} → Derives r a p → (from end : ℕ) → Rise from end a
+    → ProgramIn from end p
 program_placed (Derives.last d) from end h = let p = external_placed d from end h in ProgramIn.more {m = p.at} p.part ProgramIn.none
-program_placed (Derives.more d e) from end h = let p = external_placed d from end h in ProgramIn.more {m = p.at} p.part (program_placed e p.at end p.rise)
+program_placed (Derives.more d e) from end h =
+    let p = external_placed d from end h in ProgramIn.more {m = p.at} p.part (program_placed e p.at end p.rise)
 
 -- a derived program is in text order
 pub program_in_order : (r end : ℕ) (a : Tokens) (p : List Outer) → Rise 0 end a → Derives r a p → ProgramIn 0 end p

@@ -23,15 +23,16 @@ use Rattle.c_grammar.proofs.Scanner.{Frame, group, list, start, test, again, fir
 use Rattle.c_grammar.proofs.ScannedParts.{Part, nothing, before, opened, after, close, finish, join, enter}
 use Rattle.c_grammar.proofs.ExpressionScan.{Free, reads_part}
 
--- an expression, with the nesting behind it
-pub reads_from : {N : Kind} {r m : ℕ} {a b : Tokens} {t : Tree} (d : Reads N r a m b t) (end : Tokens) → length end ≤ length b → (n : ℕ) (k : List Frame) → Free N k
+-- an expression, with the nesting after it
+pub reads_from : {N : Kind} {r m : ℕ} {a b : Tokens} {t : Tree} (d : Reads N r a m b t) (end : Tokens)
+    → length end ≤ length b → (n : ℕ) (k : List Frame) → Free N k
     → Part r m (length end) n (operand n k) a (operated (n + r - m) k) b (openers d end)
 reads_from {r = r} {m = m} d end h n k f = let y = room d in reads_part d end h n (n + r - m) (omega arith) k f
 
 -- ---- declarations
 
-pub length_part : {r : ℕ} {a b : Tokens} {v : Option ℤ} {e : Span} (d : Length r a b v e) (n : ℕ) (k : List Frame) (z : ℕ) → z ≤ length b
-    → Part r r z n (declared n k) a (declared n k) b (length_openers d)
+pub length_part : {r : ℕ} {a b : Tokens} {v : Option ℤ} {e : Span} (d : Length r a b v e) (n : ℕ) (k : List Frame) (z : ℕ)
+    → z ≤ length b → Part r r z n (declared n k) a (declared n k) b (length_openers d)
 length_part {a = a} (Length.bare {r = r}) n k z h =
     close (opened refl refl (next a) (nothing r (length (next a)) (suc n) (declared (suc n) (group n ∷ k)) (next a) (omega arith))) refl refl h
 length_part {a = a} (Length.constant {r = r}) n k z h =
@@ -44,7 +45,8 @@ pub record Listed (r z n : ℕ) (k : List Frame) (a b : Tokens) (l : List Opener
   pub closes : step final lead.CloseBrace ≡ operated n k
   pub part : Part r r z (suc n) (operand (suc n) (list n ∷ k)) a final b l
 
-pub elements_part : {r : ℕ} {a b : Tokens} {ts : List Tree} (d : Elements r a b ts) (n : ℕ) (k : List Frame) (z : ℕ) → z ≤ length b → Listed r z n k a b (elements_openers d)
+pub elements_part : {r : ℕ} {a b : Tokens} {ts : List Tree} (d : Elements r a b ts) (n : ℕ) (k : List Frame) (z : ℕ)
+    → z ≤ length b → Listed r z n k a b (elements_openers d)
 elements_part {r = r} (Elements.last {m = m} d) n k z h =
     record { final = operated (suc n + r - m) (list n ∷ k); closes = refl; part = finish (reads_from d (ending d) (omega arith) (suc n) (list n ∷ k) tt) h }
 elements_part (Elements.last_comma d) n k z h = record {
@@ -61,14 +63,15 @@ elements_part (Elements.more d e) n k z h =
       part = join {l = elements_openers e} (after (finish (reads_from d (ending d) (omega arith) (suc n) (list n ∷ k) tt) (omega arith)) refl refl (omega arith)) q.part refl;
     }
 
--- a declared variable, up to the comma or the `;` behind it
+-- a declared variable, up to the comma or the `;` after it
 pub record Declared (r z n : ℕ) (k : List Frame) (a b : Tokens) (l : List Opener) : Type 0 where
   pub final : State
   pub comma : step final lead.Comma ≡ declared n k
   pub semicolon : step final lead.Semicolon ≡ vars_end k n
   pub part : Part r r z n (declared n k) a final b l
 
-pub declarator_part : {r : ℕ} {a b : Tokens} {v : Variable} (d : Declarator r a b v) (n : ℕ) (k : List Frame) (z : ℕ) → z ≤ length b → Declared r z n k a b (declarator_openers d)
+pub declarator_part : {r : ℕ} {a b : Tokens} {v : Variable} (d : Declarator r a b v) (n : ℕ) (k : List Frame) (z : ℕ)
+    → z ≤ length b → Declared r z n k a b (declarator_openers d)
 declarator_part {r = r} {b = b} Declarator.scalar n k z h =
     record { final = declared n k; comma = refl; semicolon = refl; part = before refl refl (nothing r z n (declared n k) b h) }
 declarator_part {r = r} {b = b} (Declarator.scalar_start {m = m} d) n k z h = record {
@@ -77,7 +80,8 @@ declarator_part {r = r} {b = b} (Declarator.scalar_start {m = m} d) n k z h = re
   semicolon = refl;
   part = before refl refl (before refl refl (finish (reads_from d b (omega arith) n (start n ∷ k) tt) h));
 }
-declarator_part (Declarator.array d) n k z h = record { final = declared n k; comma = refl; semicolon = refl; part = before refl refl (length_part d n k z h) }
+declarator_part (Declarator.array d) n k z h =
+    record { final = declared n k; comma = refl; semicolon = refl; part = before refl refl (length_part d n k z h) }
 declarator_part {b = b} (Declarator.array_list d e) n k z h =
     let x = elements_shorter e in
     let y = length_shorter d in
@@ -90,8 +94,8 @@ declarator_part {b = b} (Declarator.array_list d e) n k z h =
       part = before refl refl (join (length_part d n k z (omega arith)) (before refl refl (close (opened refl refl c q.part) q.closes refl h)) refl);
     }
 
-pub declarators_part : {r : ℕ} {a b : Tokens} {vs : List Variable} (d : Declarators r a b vs) (n : ℕ) (k : List Frame) (z : ℕ) → z ≤ length b
-    → Declared r z n k a b (declarators_openers d)
+pub declarators_part : {r : ℕ} {a b : Tokens} {vs : List Variable} (d : Declarators r a b vs) (n : ℕ) (k : List Frame) (z : ℕ)
+    → z ≤ length b → Declared r z n k a b (declarators_openers d)
 declarators_part (Declarators.last d) n k z h = declarator_part d n k z h
 declarators_part (Declarators.more d e) n k z h =
     let y = declarators_shorter e in
@@ -106,20 +110,22 @@ vars_depth (_ ∷ k) n = refl
 
 -- a declaration, from where a type begins one
 pub vars_part : {r : ℕ} {a b : Tokens} {ty : Ty} {vs : List Variable} (d : Vars r a b ty vs) (σ : State) (n : ℕ) (k : List Frame)
-    → ((t : Ty) → step σ (lead.Type t) ≡ declared n k) → (z : ℕ) → z ≤ length b → Part r r z n σ a (vars_end k n) b (vars_openers d)
+    → ((t : Ty) → step σ (lead.Type t) ≡ declared n k) → (z : ℕ) → z ≤ length b
+    → Part r r z n σ a (vars_end k n) b (vars_openers d)
 vars_part {r = r} (Vars.vars {k = w} {ty = ty} i d) σ n k o z h =
     let p = declarators_part d n k z (omega arith) in
     before (ap (step σ) (lead_type w ty i) ∙ o ty) refl (after p.part p.semicolon (ap (λ j. j + r) (vars_depth k n)) h)
 
 -- ---- parts of statements
 
-pub clause_part : {r : ℕ} {a b : Tokens} {i : First} (d : Clause r a b i) (n : ℕ) (k : List Frame) (z : ℕ) → z ≤ length b
+pub clause_part : {r : ℕ} {a b : Tokens} {i : First} (d : Clause r a b i) (n : ℕ) (k : List Frame) (z : ℕ)
+    → z ≤ length b
     → Part r r z (suc n) (operand (suc n) (first n ∷ k)) a (operand (suc n) (second n ∷ k)) b (clause_openers d)
 clause_part {r = r} {b = b} Clause.empty n k z h = before refl refl (nothing r z (suc n) (operand (suc n) (second n ∷ k)) b h)
 clause_part (Clause.act d) n k z h = close (reads_from d (ending d) (omega arith) (suc n) (first n ∷ k) (λ j. refl)) refl refl h
 clause_part (Clause.vars d) n k z h = vars_part d (operand (suc n) (first n ∷ k)) (suc n) (first n ∷ k) (λ t. refl) z h
 
--- an expression that may be absent, up to the `;` or the `)` behind it
+-- an expression that may be absent, up to the `;` or the `)` after it
 pub record Opted (r e n : ℕ) (k : List Frame) (a b : Tokens) (l : List Opener) : Type 0 where
   pub left : ℕ
   pub until : ℕ
@@ -129,8 +135,9 @@ pub record Opted (r e n : ℕ) (k : List Frame) (a b : Tokens) (l : List Opener)
   pub deep : until + left ≡ n + r
   pub part : Part r left e n (operand n k) a final b l
 
-pub optional_part : {r : ℕ} {a b : Tokens} {t : Option Tree} (d : Optional r a b t) (end : Tokens) → length end ≤ length b → (n : ℕ) (k : List Frame)
-    → Free Expression k → Opted r (length end) n k a b (optional_openers d end)
+pub optional_part : {r : ℕ} {a b : Tokens} {t : Option Tree} (d : Optional r a b t) (end : Tokens)
+    → length end ≤ length b → (n : ℕ) (k : List Frame) → Free Expression k
+    → Opted r (length end) n k a b (optional_openers d end)
 optional_part {r = r} {b = b} Optional.absent end h n k f =
     record { left = r; until = n; final = operand n k; semicolon = refl; paren = refl; deep = refl; part = nothing r (length end) n (operand n k) b h }
 optional_part {r = r} (Optional.present {m = m} d) end h n k f =
@@ -151,7 +158,7 @@ optional_part {r = r} (Optional.present {m = m} d) end h n k f =
 abbrev pub Opens : State → ℕ → List Frame → Type 0
 Opens σ n k = (l : Lead) → is_else l ≡ false → step σ l ≡ at_fresh l n k
 
--- a statement, behind which the scanner goes on as where one has ended. Where o is true an `else` behind it belongs to it.
+-- a statement, after which the scanner goes on as where one has ended. Where o is true an `else` after it belongs to it.
 pub record Ended (o : Bool) (r z n : ℕ) (σ : State) (a b : Tokens) (k : List Frame) (l : List Opener) : Type 0 where
   pub final : State
   pub goes_on : (x : Lead) → (o ≡ true → is_else x ≡ false) → step final x ≡ at_ended k x
@@ -163,7 +170,8 @@ pub record Itemed (r z n : ℕ) (σ : State) (a b : Tokens) (k : List Frame) (l 
   pub opens : Opens final (suc n) (block n ∷ k)
   pub part : Part r r z (suc n) σ a final b l
 
-pub fresh_operand : (l : Lead) (n : ℕ) (k : List Frame) → starting l ≡ true → at_fresh l n k ≡ at_operand l n (act ∷ k)
+pub fresh_operand : (l : Lead) (n : ℕ) (k : List Frame) → starting l ≡ true
+    → at_fresh l n k ≡ at_operand l n (act ∷ k)
 fresh_operand lead.Semicolon n k e = absurd (cc (e))
 fresh_operand lead.OpenBrace n k e = absurd (cc (e))
 fresh_operand lead.CloseBrace n k e = absurd (cc (e))
@@ -182,7 +190,7 @@ by_else_false : (x : Bool) (n : ℕ) (k : List Frame) (σ : State) → x ≡ fal
 by_else_false true n k σ e = absurd (cc (e))
 by_else_false false n k σ e = refl
 
--- `( expression )` behind `if` or `while`
+-- `( expression )` after `if` or `while`
 pub test_part : {r m n : ℕ} {x y : TokenKind × Span} {a b : Tokens} {k : List Frame} {t : Tree}
     → lead_of x.0 ≡ lead.OpenParen → lead_of y.0 ≡ lead.CloseParen
     → (d : Reads Expression r a m (y ∷ b) t) (z : ℕ) → z ≤ length b
@@ -192,8 +200,8 @@ test_part {n = n} {y = y} {b = b} {k = k} i j d z h =
     (ap (step (operated _ (test n ∷ k))) j) refl h
 
 mutual
-  pub statement_part : {o : Bool} {r : ℕ} {a b : Tokens} {x : Code} (d : Statement o r a b x) (σ : State) (n : ℕ) (k : List Frame) → Opens σ n k → (z : ℕ) → z ≤ length b
-      → Ended o r z n σ a b k (statement_openers d)
+  pub statement_part : {o : Bool} {r : ℕ} {a b : Tokens} {x : Code} (d : Statement o r a b x) (σ : State) (n : ℕ) (k : List Frame)
+      → Opens σ n k → (z : ℕ) → z ≤ length b → Ended o r z n σ a b k (statement_openers d)
   statement_part {r = r} {b = b} Statement.empty σ n k g z h =
       record { final = ended n k; goes_on = λ l i. refl; part = before (g lead.Semicolon refl) refl (nothing r z n (ended n k) b h) }
   statement_part {r = r} {a = a} {b = b} (Statement.act {m = m} d) σ n k g z h =
@@ -276,8 +284,8 @@ mutual
   statement_part {r = r} {b = b} Statement.continue σ n k g z h =
       record { final = ended n k; goes_on = λ l i. refl; part = before (g lead.Continue refl) refl (before refl refl (nothing r z n (ended n k) b h)) }
 
-  pub items_part : {r : ℕ} {a b : Tokens} {x : Body} (d : Items r a b x) (σ : State) (n : ℕ) (k : List Frame) → Opens σ (suc n) (block n ∷ k) → (z : ℕ) → z ≤ length b
-      → Itemed r z n σ a b k (items_openers d)
+  pub items_part : {r : ℕ} {a b : Tokens} {x : Body} (d : Items r a b x) (σ : State) (n : ℕ) (k : List Frame)
+      → Opens σ (suc n) (block n ∷ k) → (z : ℕ) → z ≤ length b → Itemed r z n σ a b k (items_openers d)
   items_part {r = r} {b = b} Items.none σ n k g z h = record { final = σ; opens = g; part = nothing r z (suc n) σ b h }
   items_part (Items.vars d e) σ n k g z h =
       let y = items_shorter e in
@@ -292,22 +300,22 @@ mutual
 
 -- ---- what stands at file scope
 
-pub parameter_part : {r : ℕ} {a b : Tokens} {x : Param} (d : Parameter r a b x) (n : ℕ) (k : List Frame) (z : ℕ) → z ≤ length b
-    → Part r r z n (declared n k) a (declared n k) b (parameter_openers d)
+pub parameter_part : {r : ℕ} {a b : Tokens} {x : Param} (d : Parameter r a b x) (n : ℕ) (k : List Frame) (z : ℕ)
+    → z ≤ length b → Part r r z n (declared n k) a (declared n k) b (parameter_openers d)
 parameter_part {r = r} {b = b} (Parameter.scalar {k = w} {ty = ty} i) n k z h =
     before (ap (step (declared n k)) (lead_type w ty i)) refl (before refl refl (nothing r z n (declared n k) b h))
 parameter_part (Parameter.array {k = w} {ty = ty} i d) n k z h =
     before (ap (step (declared n k)) (lead_type w ty i)) refl (before refl refl (length_part d n k z h))
 
-pub parameters_part : {r : ℕ} {a b : Tokens} {xs : List Param} (d : Parameters r a b xs) (n : ℕ) (k : List Frame) (z : ℕ) → z ≤ length b
-    → Part r r z n (declared n k) a (declared n k) b (parameters_openers d)
+pub parameters_part : {r : ℕ} {a b : Tokens} {xs : List Param} (d : Parameters r a b xs) (n : ℕ) (k : List Frame) (z : ℕ)
+    → z ≤ length b → Part r r z n (declared n k) a (declared n k) b (parameters_openers d)
 parameters_part (Parameters.last d) n k z h = parameter_part d n k z h
 parameters_part (Parameters.more d e) n k z h =
     let y = parameters_shorter e in
     join (after (parameter_part d n k z (omega arith)) refl refl (omega arith)) (parameters_part e n k z h) refl
 
-pub signature_part : {r : ℕ} {a b : Tokens} {xs : List Param} (d : Signature r a b xs) (n : ℕ) (k : List Frame) (z : ℕ) → z ≤ length b
-    → Part r r z n (declared n k) a (declared n k) b (signature_openers d)
+pub signature_part : {r : ℕ} {a b : Tokens} {xs : List Param} (d : Signature r a b xs) (n : ℕ) (k : List Frame) (z : ℕ)
+    → z ≤ length b → Part r r z n (declared n k) a (declared n k) b (signature_openers d)
 signature_part {r = r} {b = b} Signature.empty n k z h = nothing r z n (declared n k) b h
 signature_part {r = r} {b = b} Signature.void n k z h = before refl refl (nothing r z n (declared n k) b h)
 signature_part (Signature.parameters d) n k z h = parameters_part d n k z h
@@ -335,7 +343,8 @@ pub record Standing (r z : ℕ) (σ : State) (a b : Tokens) (l : List Opener) : 
   pub opens : Opens final 0 []
   pub part : Part r r z 0 σ a final b l
 
-pub external_part : {r : ℕ} {a b : Tokens} {x : Outer} (d : External r a b x) (σ : State) → Opens σ 0 [] → (z : ℕ) → z ≤ length b → Standing r z σ a b (external_openers d)
+pub external_part : {r : ℕ} {a b : Tokens} {x : Outer} (d : External r a b x) (σ : State) → Opens σ 0 [] → (z : ℕ)
+    → z ≤ length b → Standing r z σ a b (external_openers d)
 external_part (External.vars d) σ g z h =
     record { final = fresh 0 []; opens = λ l i. refl; part = vars_part d σ 0 [] (λ t. g (lead.Type t) refl) z h }
 external_part (External.prototype {k = w} {ret = ret} i d) σ g z h =

@@ -77,7 +77,7 @@ abbrev pub vars_end : List Frame → ℕ → State
 vars_end (first m ∷ k) n = operand n (second m ∷ k)
 vars_end k n = fresh n k
 
--- at a closing bracket, or a `;` behind an expression
+-- at a closing bracket, or a `;` after an expression
 abbrev pub shut : List Frame → ℕ → State
 shut (group m ∷ k) n = operated m k
 shut (call m ∷ k) n = operated m k
@@ -174,7 +174,7 @@ at_fresh (lead.Type ty) n k = declared n k
 at_fresh lead.Void n k = declared n k
 at_fresh l n k = at_operand l n (act ∷ k)
 
--- after the statement behind an `if`, by whether an `else` follows
+-- after the statement of an `if`, by whether an `else` follows
 abbrev pub by_else : Bool → ℕ → List Frame → State → State
 by_else true m k σ = fresh (suc m) (body m ∷ k)
 by_else false m k σ = σ
@@ -209,13 +209,15 @@ step (head h n k) l = at_head h n k
 -- Scans f σ a τ b: over the tokens from a down to b the scanner goes from σ to τ, and f is the nesting at each.
 pub data Scans (f : Tokens → ℕ) : State → Tokens → State → Tokens → Type 0 where
   stop : {σ : State} {a : Tokens} → Scans f σ a σ a
-  token : {σ τ υ : State} {x : TokenKind × Span} {a b : Tokens} → step σ (lead_of x.0) ≡ τ → depth τ ≡ f (x ∷ a) → Scans f τ a υ b → Scans f σ (x ∷ a) υ b
+  token : {σ τ υ : State} {x : TokenKind × Span} {a b : Tokens} → step σ (lead_of x.0) ≡ τ → depth τ ≡ f (x ∷ a)
+      → Scans f τ a υ b → Scans f σ (x ∷ a) υ b
 
 pub scans_shorter : {f : Tokens → ℕ} {σ τ : State} {a b : Tokens} → Scans f σ a τ b → length b ≤ length a
 scans_shorter Scans.stop = omega arith
 scans_shorter (Scans.token e h z) = let i = scans_shorter z in omega arith
 
-pub scans_join : {f : Tokens → ℕ} {σ τ υ : State} {a b c : Tokens} → Scans f σ a τ b → Scans f τ b υ c → Scans f σ a υ c
+pub scans_join : {f : Tokens → ℕ} {σ τ υ : State} {a b c : Tokens} → Scans f σ a τ b → Scans f τ b υ c
+    → Scans f σ a υ c
 scans_join Scans.stop z = z
 scans_join (Scans.token e h y) z = Scans.token e h (scans_join y z)
 
@@ -227,8 +229,8 @@ scans_same (Scans.token {x = x} {a = a} e h z) q =
     Scans.token e (h ∙ q (x ∷ a) (omega arith) (omega arith)) (scans_same z (λ c j l. q c j (omega arith)))
 
 -- from a state that goes on with the first token in the same way
-pub scans_enter : {f : Tokens → ℕ} {σ τ : State} {a b : Tokens} (υ : State) → Scans f σ a τ b → length b < length a → step υ (front a) ≡ step σ (front a)
-    → Scans f υ a τ b
+pub scans_enter : {f : Tokens → ℕ} {σ τ : State} {a b : Tokens} (υ : State) → Scans f σ a τ b → length b < length a
+    → step υ (front a) ≡ step σ (front a) → Scans f υ a τ b
 scans_enter υ Scans.stop h q = absurd (omega arith)
 scans_enter υ (Scans.token e h z) l q = Scans.token (q ∙ e) h z
 
@@ -237,16 +239,16 @@ pub record Counts (f : Tokens → ℕ) : Type 0 where
   pub same : (c d : Tokens) → length c ≡ length d → f c ≡ f d
 
 -- two runs over the same tokens have the same nesting at each
-pub scans_agree : {f g : Tokens → ℕ} {σ τ υ : State} {a b d : Tokens} → Counts f → Counts g → Scans f σ a τ b → Scans g σ a υ d
-    → (c : Tokens) → length b < length c → length d < length c → length c ≤ length a → f c ≡ g c
+pub scans_agree : {f g : Tokens → ℕ} {σ τ υ : State} {a b d : Tokens} → Counts f → Counts g → Scans f σ a τ b
+    → Scans g σ a υ d → (c : Tokens) → length b < length c → length d < length c → length c ≤ length a → f c ≡ g c
 scans_agree u v Scans.stop z c h i j = absurd (omega arith)
 scans_agree u v (Scans.token e k y) Scans.stop c h i j = absurd (omega arith)
 scans_agree {f} {g} {d = d} u v (Scans.token {τ = τ} {x = x} {a = a} e k y) (Scans.token {τ = π} {υ = υ} e2 k2 z) c h i j =
     let q : π ≡ τ = sym e2 ∙ e in
     let w : Scans g τ a υ d = subst (λ s. Scans g s a υ d) q z in
     elim (larger (length c) (length a)) [
-      inl l ↦ scans_agree u v y w c h i l
-    | inr l ↦
-      let n : length c ≡ length (x ∷ a) = omega arith in
-      u.same c (x ∷ a) n ∙ (sym k ∙ (ap depth (sym q) ∙ (k2 ∙ sym (v.same c (x ∷ a) n))))
+      | inl l ↦ scans_agree u v y w c h i l
+      | inr l ↦
+          let n : length c ≡ length (x ∷ a) = omega arith in
+          u.same c (x ∷ a) n ∙ (sym k ∙ (ap depth (sym q) ∙ (k2 ∙ sym (v.same c (x ∷ a) n))))
     ]

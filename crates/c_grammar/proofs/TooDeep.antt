@@ -32,23 +32,27 @@ split (later {x = x} t) = let p = split t in record { earlier = x ∷ p.earlier;
 
 -- ---- where the nesting is no more than a number
 
--- what holds at every token behind the first j holds at the openers
+-- what holds at every token before the last j holds at the openers
 all_along : (l : List Opener) (r : ℕ) {i j s : ℕ} → ((c : Tokens) → j < length c → nesting l c ≤ r)
-    → {k : List Opener} {q : List ℕ} → Along (λ o n. (j < length o.0) × (length o.0 ≤ i) × (nesting l o.0 + n ≡ s)) k q → All (λ o. nesting l o.0 ≤ r) k
+    → {k : List Opener} {q : List ℕ}
+    → Along (λ o n. (j < length o.0) × (length o.0 ≤ i) × (nesting l o.0 + n ≡ s)) k q
+    → All (λ o. nesting l o.0 ≤ r) k
 all_along l r h Along.none = All-nil (λ o. nesting l o.0 ≤ r)
 all_along l r h (Along.also {o = o} {k = k} x y) = All-cons (λ p. nesting l p.0 ≤ r) o k (h o.0 x.0) (all_along l r h y)
 
 -- what nests nowhere deeper than r begins a program with room r
-enough : {s : ℕ} {a b : Tokens} (r : ℕ) (d : Viable s a b) → ((c : Tokens) → length b < length c → nesting (viable_openers d) c ≤ r) → Viable r a b
+enough : {s : ℕ} {a b : Tokens} (r : ℕ) (d : Viable s a b)
+    → ((c : Tokens) → length b < length c → nesting (viable_openers d) c ≤ r) → Viable r a b
 enough {s} {a} {b} r d h = let g = viable_fit d in front_nesting_suffices r s a b d (all_along (viable_openers d) r h g.fits.along)
 
 -- at a token, or before it
-up_to : (r : ℕ) (x : TokenKind × Span) (b : Tokens) (l : List Opener) → nesting l (x ∷ b) ≤ r → ((e : Tokens) → length (x ∷ b) < length e → nesting l e ≤ r)
-    → (c : Tokens) → length b < length c → nesting l c ≤ r
+up_to : (r : ℕ) (x : TokenKind × Span) (b : Tokens) (l : List Opener) → nesting l (x ∷ b) ≤ r
+    → ((e : Tokens) → length (x ∷ b) < length e → nesting l e ≤ r) → (c : Tokens) → length b < length c
+    → nesting l c ≤ r
 up_to r x b l h g c i = elim (larger (length c) (length (x ∷ b))) [
-      inl j ↦ let q = nesting_length l c (x ∷ b) (omega arith) in omega arith
-    | inr j ↦ g c j
-    ]
+  | inl j ↦ let q = nesting_length l c (x ∷ b) (omega arith) in omega arith
+  | inr j ↦ g c j
+]
 
 -- ---- the law
 
@@ -67,15 +71,18 @@ deep_passes r a (x ∷ c) h =
         let w = front_nesting_within r a (x ∷ c) h.0 e in
         omega arith
 
-    deeper : (nesting (viable_openers h.1.0) (x ∷ c) ≤ r) ⊎ (r < nesting (viable_openers h.1.0) (x ∷ c)) → nesting (viable_openers h.1.0) (x ∷ c) ≡ suc r
+    deeper : (nesting (viable_openers h.1.0) (x ∷ c) ≤ r) ⊎ (r < nesting (viable_openers h.1.0) (x ∷ c))
+        → nesting (viable_openers h.1.0) (x ∷ c) ≡ suc r
     deeper (inl i) = absurd (h.1.1 (enough r h.1.0 (up_to r x c (viable_openers h.1.0) i within)))
     deeper (inr i) = let w = front_nesting_within (suc r) a c h.1.0 (x ∷ c) in omega arith
 
-passed_deep : (r : ℕ) (a : Tokens) (x : TokenKind × Span) (c : Tokens) → PassesAt r a x c → Judged r a (too_deep_at (x ∷ c))
+passed_deep : (r : ℕ) (a : Tokens) (x : TokenKind × Span) (c : Tokens) → PassesAt r a x c
+    → Judged r a (too_deep_at (x ∷ c))
 passed_deep r a x c h = (earlier, (begun, refused))
   where
     begun : Viable (suc r) a c
-    begun = enough (suc r) h.begins (up_to (suc r) x c (viable_openers h.begins) (let q = h.deeper in omega arith) (λ e i. let w = h.within e i in omega arith))
+    begun =
+        enough (suc r) h.begins (up_to (suc r) x c (viable_openers h.begins) (let q = h.deeper in omega arith) (λ e i. let w = h.within e i in omega arith))
 
     refused : Viable r a c → ⊥
     refused d =
@@ -89,9 +96,9 @@ passed_deep r a x c h = (earlier, (begun, refused))
         let t : Tail a (x ∷ c) = subst (λ z. Tail z (x ∷ c)) (sym h.splits) (tail_of h.earlier (x ∷ c)) in
         let v : Viable h.room a (x ∷ c) = viable_front h.begins t (later all) in
         enough r v (λ e i.
-            let q = one_nesting h.room h.room a (x ∷ c) c v h.begins e i (omega arith) in
-            let w = h.within e i in
-            omega arith)
+        let q = one_nesting h.room h.room a (x ∷ c) c v h.begins e i (omega arith) in
+        let w = h.within e i in
+        omega arith)
 
 -- and where it first passes the room, a token is too deep
 pub passes_deep : (r : ℕ) (a b : Tokens) → Passes r a b → Judged r a (too_deep_at b)

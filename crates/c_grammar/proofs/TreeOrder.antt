@@ -55,7 +55,8 @@ args_spread (ArgsIn.format {m = m} w y) h g =
 args_spread (ArgsIn.address {m = m} x y) h g = ArgsIn.address {m = m} (spread x h (omega arith)) (args_spread y (omega arith) g)
 
 -- an expression with a wider text
-pub wrapped_in : {i j k l : ℕ} {t : Tree} (s : Span) → TreeIn i j t → s.from ≤ i → j ≤ s.to → Within k l s → TreeIn k l (wrapped s t)
+pub wrapped_in : {i j k l : ℕ} {t : Tree} (s : Span) → TreeIn i j t → s.from ≤ i → j ≤ s.to → Within k l s
+    → TreeIn k l (wrapped s t)
 wrapped_in s (TreeIn.constant v) h g w = TreeIn.constant w
 wrapped_in s (TreeIn.name v) h g w = TreeIn.name w
 wrapped_in s (TreeIn.index v x) h g w = TreeIn.index w (spread x (let b = v.begins in omega arith) (let e = v.ends in omega arith))
@@ -74,12 +75,14 @@ wrapped_in s (TreeIn.comma {m = m} v x y) h g w =
 
 -- ---- trees of parts
 
-prefixed_in : {i j k : ℕ} {t : Tree} (f : UnOp) (s : Span) → i ≤ s.from → s.from < s.to → s.to ≤ j → TreeIn j k t → TreeIn i k (prefixed f s t)
+prefixed_in : {i j k : ℕ} {t : Tree} (f : UnOp) (s : Span) → i ≤ s.from → s.from < s.to → s.to ≤ j → TreeIn j k t
+    → TreeIn i k (prefixed f s t)
 prefixed_in f s a b c x =
     let w = text_in x in
     TreeIn.unary (record { begins = a; covers = omega arith; ends = w.ends }) (moved x (record { begins = omega arith; covers = w.covers; ends = omega arith }))
 
-cast_in : {i j k : ℕ} {t : Tree} (ty : Ty) (s : Span) → i ≤ s.from → s.from < s.to → s.to ≤ j → TreeIn j k t → TreeIn i k (tree.cast ty t (over s (span_of t)))
+cast_in : {i j k : ℕ} {t : Tree} (ty : Ty) (s : Span) → i ≤ s.from → s.from < s.to → s.to ≤ j → TreeIn j k t
+    → TreeIn i k (tree.cast ty t (over s (span_of t)))
 cast_in ty s a b c x =
     let w = text_in x in
     TreeIn.cast (record { begins = a; covers = omega arith; ends = w.ends }) (moved x (record { begins = omega arith; covers = w.covers; ends = omega arith }))
@@ -90,7 +93,8 @@ bump_before_in up s a b c x =
     let w = text_in x in
     TreeIn.bump (record { begins = a; covers = omega arith; ends = w.ends }) (moved x (record { begins = omega arith; covers = w.covers; ends = omega arith }))
 
-bump_after_in : {i j : ℕ} {t : Tree} (up : Bool) (s : Span) → TreeIn i j t → j ≤ s.from → s.from < s.to → TreeIn i s.to (tree.bump Bool.false up t (over (span_of t) s))
+bump_after_in : {i j : ℕ} {t : Tree} (up : Bool) (s : Span) → TreeIn i j t → j ≤ s.from → s.from < s.to
+    → TreeIn i s.to (tree.bump Bool.false up t (over (span_of t) s))
 bump_after_in up s x a b =
     let w = text_in x in
     TreeIn.bump (record { begins = w.begins; covers = omega arith; ends = omega arith }) (moved x (record { begins = omega arith; covers = w.covers; ends = omega arith }))
@@ -102,7 +106,8 @@ joined_in {j = j} f x h y =
     TreeIn.binary {m = j} (record { begins = v.begins; covers = omega arith; ends = w.ends })
     (moved x (record { begins = omega arith; covers = v.covers; ends = v.ends })) (moved y (record { begins = omega arith; covers = w.covers; ends = omega arith }))
 
-assigned_in : {i j k l : ℕ} {t u : Tree} (f : Option BinOp) → TreeIn i j t → j ≤ k → TreeIn k l u → TreeIn i l (assigned f t u)
+assigned_in : {i j k l : ℕ} {t u : Tree} (f : Option BinOp) → TreeIn i j t → j ≤ k → TreeIn k l u
+    → TreeIn i l (assigned f t u)
 assigned_in {j = j} f x h y =
     let v = text_in x in
     let w = text_in y in
@@ -116,7 +121,8 @@ followed_in {j = j} x h y =
     TreeIn.comma {m = j} (record { begins = v.begins; covers = omega arith; ends = w.ends })
     (moved x (record { begins = omega arith; covers = v.covers; ends = v.ends })) (moved y (record { begins = omega arith; covers = w.covers; ends = omega arith }))
 
-chosen_in : {i j k l m n : ℕ} {t u v : Tree} → TreeIn i j t → j ≤ k → TreeIn k l u → l ≤ m → TreeIn m n v → TreeIn i n (chosen t u v)
+chosen_in : {i j k l m n : ℕ} {t u v : Tree} → TreeIn i j t → j ≤ k → TreeIn k l u → l ≤ m → TreeIn m n v
+    → TreeIn i n (chosen t u v)
 chosen_in {j = j} {l = l} x h y g z =
     let a = text_in x in
     let b = text_in y in
@@ -146,7 +152,8 @@ put_in (GivenIn.format w) y = ArgsIn.format w y
 put_in (GivenIn.address x) y = ArgsIn.address x y
 
 mutual
-  pub tree_placed : {N : Part} {r m : ℕ} {a b : Tokens} {t : Tree} → Reads N r a m b t → (from end : ℕ) → Rise from end a → Placed (λ i j. TreeIn i j t) from end b
+  pub tree_placed : {N : Part} {r m : ℕ} {a b : Tokens} {t : Tree} → Reads N r a m b t → (from end : ℕ)
+      → Rise from end a → Placed (λ i j. TreeIn i j t) from end b
   tree_placed (Reads.constant {s = s}) from end h =
       record { at = s.to; order = omega arith; part = TreeIn.constant (record { begins = h.0; covers = h.1; ends = omega arith }); rise = h.2 }
   tree_placed (Reads.name {s = s}) from end h =
@@ -246,7 +253,8 @@ mutual
       let y = q.order in
       record { at = q.at; order = omega arith; part = followed_in p.part (omega arith) q.part; rise = q.rise }
 
-  pub given_placed : {r : ℕ} {a b : Tokens} {g : Given} → Argument r a b g → (from end : ℕ) → Rise from end a → Placed (λ i j. GivenIn i j g) from end b
+  pub given_placed : {r : ℕ} {a b : Tokens} {g : Given} → Argument r a b g → (from end : ℕ) → Rise from end a
+      → Placed (λ i j. GivenIn i j g) from end b
   given_placed (Argument.value d) from end h =
       let p = tree_placed d from end h in
       record { at = p.at; order = p.order; part = GivenIn.value p.part; rise = p.rise }
@@ -257,7 +265,8 @@ mutual
       let q = p.order in
       record { at = p.at; order = omega arith; part = GivenIn.address (spread p.part (omega arith) (omega arith)); rise = p.rise }
 
-  pub args_placed : {r : ℕ} {a b : Tokens} {gs : List Given} → Arguments r a b gs → (from end : ℕ) → Rise from end a → Placed (λ i j. ArgsIn i j (args gs)) from end b
+  pub args_placed : {r : ℕ} {a b : Tokens} {gs : List Given} → Arguments r a b gs → (from end : ℕ) → Rise from end a
+      → Placed (λ i j. ArgsIn i j (args gs)) from end b
   args_placed (Arguments.last d) from end h =
       let p = given_placed d from end h in
       record { at = p.at; order = p.order; part = put_in {j = p.at} p.part ArgsIn.no_args; rise = p.rise }

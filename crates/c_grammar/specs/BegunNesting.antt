@@ -156,8 +156,8 @@ viable_openers (Viable.more d e) = external_openers d ++ viable_openers e
 
 -- ---- where the nesting passes a number
 
--- The token x, after which the tokens c stand, is the first at which the nesting passes r: the tokens before it, with it, begin a program, the
--- nesting at it is one more than r, and nowhere before it is it more than r.
+-- The token x, after which the tokens c stand, is the first at which the nesting passes r: the tokens before it, with it, begin a
+-- program, the nesting at it is one more than r, and nowhere before it is it more than r.
 pub record PassesAt (r : ℕ) (a : Tokens) (x : TokenKind × Span) (c : Tokens) : Type 0 where
   pub earlier : Tokens
   pub splits : a ≡ earlier ++ x ∷ c

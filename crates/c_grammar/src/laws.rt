@@ -24,7 +24,9 @@ pub fn exact()
     ensures one { (r : ℕ) (a : Tokens) (v w : Verdict) → Judged r a v → Judged r a w → v ≡ w }
 {}
 
-/// A token is nested too deep exactly where it is the first that a program goes on with only at a nesting above the room.
+/// A token is nested too deep exactly where the tokens before it, with it, begin a program, the nesting at it is one more than
+/// the room, and nowhere before it is the nesting more than the room. (The nesting at a token is the same in every derivation
+/// of what begins a program: `front_nesting_is_room`.)
 pub fn too_deep()
     ensures passes { (r : ℕ) (a b : Tokens) → Judged r a (too_deep_at b) → Passes r a b }
     ensures refused { (r : ℕ) (a b : Tokens) → Passes r a b → Judged r a (too_deep_at b) }

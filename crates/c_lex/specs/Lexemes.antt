@@ -11,7 +11,7 @@ Lexeme = TokenKind × Span
 abbrev pub span_at : ℕ → ℕ → Span
 span_at at n = record { from = at; to = at + n }
 
--- the spans stand behind one another, none is empty, and they lie between two places
+-- the spans follow one another, none is empty, and they lie between two places
 abbrev pub Rise : ℕ → ℕ → List Lexeme → Type 0
 Rise from end [] = from ≤ end
 Rise from end (t ∷ ts) = (from ≤ t.1.from) × (t.1.from < t.1.to) × Rise t.1.to end ts
