@@ -34,3 +34,13 @@ pub mod DeclarationPassed
 pub mod StatementPassed
 pub mod ProgramPassed
 pub mod Openings
+pub mod TreeOrder
+pub mod ProgramOrder
+pub mod OwnTokens
+pub mod Scanner
+pub mod ScannedParts
+pub mod ExpressionScan
+pub mod ProgramScan
+pub mod BegunScan
+pub mod NestingAt
+pub mod TooDeep

@@ -28,7 +28,7 @@ starting (lead.Bump up) = true
 starting (lead.Binary f) = is_prefix (binary_prefix f)
 starting _ = false
 
-prefix_starts : (l : Lead) (f : UnOp) → prefix_at l ≡ Some f → starting l ≡ true
+pub prefix_starts : (l : Lead) (f : UnOp) → prefix_at l ≡ Some f → starting l ≡ true
 prefix_starts (lead.Prefix g) f e = refl
 prefix_starts (lead.Binary g) f e = ap is_prefix e
 prefix_starts _ f e = absurd (cc (e))

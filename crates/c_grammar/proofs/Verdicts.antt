@@ -1,6 +1,5 @@
 -- The verdict of the descent is the grammar's, and no other verdict is.
-use Rattle.std.proofs.Common.{◌≡◌, ℕ, zero, suc, ◌+◌, List, [], ◌∷◌, refl, ap, subst, ◌⊎◌, inl, inr, arith, ◌≤◌, All}
-use Rattle.std.proofs.lemmas.List.Elements.{All-nil, All-cons}
+use Rattle.std.proofs.Common.{◌≡◌, ℕ, zero, suc, ◌+◌, List, [], ◌∷◌, refl, ap, subst, ◌⊎◌, inl, inr, arith}
 use Rattle.c_lex.specs.declared.token.TokenKind.{TokenKind}
 use Rattle.c_tree.specs.declared.place.Span.{Span}
 use Rattle.c_tree.specs.Tree.{Outer}
@@ -9,13 +8,9 @@ use Rattle.c_grammar.specs.Programs.{Derives, Viable}
 use Rattle.c_grammar.specs.Descent.{Reading, found, unexpected, too_deep}
 use Rattle.c_grammar.specs.ProgramDescent as descent
 use Rattle.c_grammar.specs.Judge.{Verdict, good, unexpected_at, too_deep_at, Judged, verdict, judge}
-use Rattle.c_grammar.specs.Nesting.{Opener, nesting}
-use Rattle.c_grammar.specs.BegunNesting.{viable_openers, Nests, Passes}
 use Rattle.c_grammar.proofs.ProgramBasics.{derives_lift, viable_lift}
 use Rattle.c_grammar.proofs.Fronts.{Tail, all, later, next, seam, tail_end}
 use Rattle.c_grammar.proofs.ProgramFronts.{tail_viable, derives_front, viable_front}
-use Rattle.c_grammar.proofs.FrontNesting.{front_nesting_within}
-use Rattle.c_grammar.proofs.BegunLowered.{front_nesting_suffices}
 use Rattle.c_grammar.proofs.Far.{Far}
 use Rattle.c_grammar.proofs.More.{Same}
 use Rattle.c_grammar.proofs.ProgramSound.{ProgramSound, program_ok}
@@ -143,26 +138,3 @@ one_verdict r a (too_deep_at (o ∷ c)) (too_deep_at (q ∷ d)) x y = ap too_dee
 -- so the verdict is the one that the grammar gives
 pub judge_is : (r : ℕ) (a : Tokens) (v : Verdict) → Judged r a v → judge r a ≡ v
 judge_is r a v h = one_verdict r a (judge r a) v (judge_ok r a) h
-
--- ---- the verdict by the nesting
-
--- what holds at every token holds at the openers
-all_at : (r : ℕ) (l k : List Opener) → ((c : Tokens) → nesting l c ≤ r) → All (λ o. nesting l o.0 ≤ r) k
-all_at r l [] h = All-nil (λ o. nesting l o.0 ≤ r)
-all_at r l (o ∷ k) h = All-cons (λ o. nesting l o.0 ≤ r) o k (h o.0) (all_at r l k h)
-
-nests : {r : ℕ} {a b : Tokens} → Viable r a b → Nests r a b
-nests {r} {a} {b} d = (r, d, front_nesting_within r a b d)
-
-viable : {r : ℕ} {a b : Tokens} → Nests r a b → Viable r a b
-viable {r} {a} {b} h = front_nesting_suffices r h.0 a b h.1 (all_at r (viable_openers h.1) (viable_openers h.1) h.2)
-
--- what is nested too deep passes the room
-pub deep_passes : (r : ℕ) (a b : Tokens) → Judged r a (too_deep_at b) → Passes r a b
-deep_passes r a [] h = absurd h.1
-deep_passes r a (x ∷ c) h = (nests h.0, nests h.1.0, λ n. h.1.1 (viable n))
-
--- and what passes the room is nested too deep
-pub passes_deep : (r : ℕ) (a b : Tokens) → Passes r a b → Judged r a (too_deep_at b)
-passes_deep r a [] h = absurd h
-passes_deep r a (x ∷ c) h = (viable h.0, (viable h.1, λ d. h.2 (nests d)))

@@ -1,5 +1,7 @@
 -- The nesting of what begins a program, by the same table. An opener that isn't closed there is open to the end.
-use Rattle.std.specs.Prelude.{suc, ◌≤◌, List, [], ◌∷◌, ◌++◌, ℕ}
+use Rattle.std.specs.Prelude.{◌≡◌, ℕ, suc, ◌<◌, ◌≤◌, List, [], ◌∷◌, ◌++◌, length}
+use Rattle.c_lex.specs.declared.token.TokenKind.{TokenKind}
+use Rattle.c_tree.specs.declared.place.Span.{Span}
 use Rattle.c_grammar.specs.declared.part.Part.{Part}
 use Rattle.c_grammar.specs.Grammar.{Tokens, Begins, BeginsArgument, BeginsArguments}
 use Rattle.c_grammar.specs.Programs.{BeginsLength, BeginsElements, BeginsDeclarator, BeginsDeclarators, BeginsVars, BeginsClause, BeginsStatement, BeginsItems, BeginsParameter, BeginsParameters, BeginsSignature, BeginsExternal, Viable}
@@ -154,11 +156,17 @@ viable_openers (Viable.more d e) = external_openers d ++ viable_openers e
 
 -- ---- where the nesting passes a number
 
--- From a down to b the tokens begin a program, and nest nowhere deeper than r.
-abbrev pub Nests : ℕ → Tokens → Tokens → Type 0
-Nests r a b = (s : ℕ) × (d : Viable s a b) × ((c : Tokens) → nesting (viable_openers d) c ≤ r)
+-- The token x, after which the tokens c stand, is the first at which the nesting passes r: the tokens before it, with it, begin a
+-- program, the nesting at it is one more than r, and nowhere before it is it more than r.
+pub record PassesAt (r : ℕ) (a : Tokens) (x : TokenKind × Span) (c : Tokens) : Type 0 where
+  pub earlier : Tokens
+  pub splits : a ≡ earlier ++ x ∷ c
+  pub room : ℕ
+  pub begins : Viable room a c
+  pub deeper : nesting (viable_openers begins) (x ∷ c) ≡ suc r
+  pub within : (e : Tokens) → length (x ∷ c) < length e → nesting (viable_openers begins) e ≤ r
 
--- The token at b is the first with which what begins a program nests deeper than r.
+-- The first of the tokens b is that token.
 abbrev pub Passes : ℕ → Tokens → Tokens → Type 0
 Passes r a [] = ⊥
-Passes r a (x ∷ c) = Nests r a (x ∷ c) × Nests (suc r) a c × (Nests r a c → ⊥)
+Passes r a (x ∷ c) = PassesAt r a x c

@@ -9,3 +9,4 @@ pub mod Nesting
 pub mod Rooms
 pub mod BegunNesting
 pub mod BegunRooms
+pub mod Texts

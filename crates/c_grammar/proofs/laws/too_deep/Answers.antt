@@ -1,4 +1,4 @@
-use Rattle.c_grammar.proofs.Verdicts.{deep_passes, passes_deep}
+use Rattle.c_grammar.proofs.TooDeep.{deep_passes, passes_deep}
 use Rattle.c_grammar.proofs.laws.too_deep.Goals as goal
 
 pub returns : goal.returns
