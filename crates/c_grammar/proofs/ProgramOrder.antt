@@ -16,20 +16,20 @@ within_spread : {i j k l : ℕ} {s : Span} → Within i j s → k ≤ i → j �
 within_spread w h g = record { begins = let b = w.begins in omega arith; covers = w.covers; ends = let e = w.ends in omega arith }
 
 trees_spread : {i j k l : ℕ} {ts : List Tree} → TreesIn i j ts → k ≤ i → j ≤ l → TreesIn k l ts
-trees_spread TreesIn.none h g = TreesIn.none
+trees_spread (TreesIn.none o) h g = TreesIn.none (omega arith)
 trees_spread (TreesIn.more {m = m} x y) h g = TreesIn.more {m = m} (spread x h (omega arith)) (trees_spread y (omega arith) g)
 
 option_spread : {i j k l : ℕ} {t : Option Tree} → OptionIn i j t → k ≤ i → j ≤ l → OptionIn k l t
-option_spread OptionIn.absent h g = OptionIn.absent
+option_spread (OptionIn.absent o) h g = OptionIn.absent (omega arith)
 option_spread (OptionIn.present x) h g = OptionIn.present (spread x h g)
 
 variables_spread : {i j k l : ℕ} {vs : List Variable} → VariablesIn i j vs → k ≤ i → j ≤ l → VariablesIn k l vs
-variables_spread VariablesIn.none h g = VariablesIn.none
+variables_spread (VariablesIn.none o) h g = VariablesIn.none (omega arith)
 variables_spread (VariablesIn.more {m = m} w x y) h g =
     VariablesIn.more {m = m} (within_spread w h (omega arith)) x (variables_spread y (omega arith) g)
 
 first_spread : {i j k l : ℕ} {f : First} → FirstIn i j f → k ≤ i → j ≤ l → FirstIn k l f
-first_spread FirstIn.none h g = FirstIn.none
+first_spread (FirstIn.none o) h g = FirstIn.none (omega arith)
 first_spread (FirstIn.act x) h g = FirstIn.act (spread x h g)
 first_spread (FirstIn.vars x) h g = FirstIn.vars (variables_spread x h g)
 
@@ -65,12 +65,12 @@ code_spread : {i j k l : ℕ} {c : Code} → CodeIn i j c → k ≤ i → j ≤ 
 code_spread x h g = code_moved x (within_spread (code_in x) h g)
 
 body_spread : {i j k l : ℕ} {b : Body} → BodyIn i j b → k ≤ i → j ≤ l → BodyIn k l b
-body_spread BodyIn.done h g = BodyIn.done
+body_spread (BodyIn.done o) h g = BodyIn.done (omega arith)
 body_spread (BodyIn.next {m = m} x y) h g = BodyIn.next {m = m} (code_spread x h (omega arith)) (body_spread y (omega arith) g)
 body_spread (BodyIn.vars {m = m} x y) h g = BodyIn.vars {m = m} (variables_spread x h (omega arith)) (body_spread y (omega arith) g)
 
 params_spread : {i j k l : ℕ} {ps : List Param} → ParamsIn i j ps → k ≤ i → j ≤ l → ParamsIn k l ps
-params_spread ParamsIn.none h g = ParamsIn.none
+params_spread (ParamsIn.none o) h g = ParamsIn.none (omega arith)
 params_spread (ParamsIn.more {m = m} w x) h g = ParamsIn.more {m = m} (within_spread w h (omega arith)) (params_spread x (omega arith) g)
 
 -- ---- declarations
@@ -89,12 +89,12 @@ elements_placed : {r : ℕ} {a b : Tokens} {ts : List Tree} → Elements r a b t
     → Placed (λ i j. TreesIn i j ts) from end b
 elements_placed (Elements.last d) from end h =
     let p = tree_placed d from end h in
-    record { at = p.at; order = p.order; part = TreesIn.more {m = p.at} p.part TreesIn.none; rise = p.rise }
+    record { at = p.at; order = p.order; part = TreesIn.more {m = p.at} p.part (TreesIn.none (omega arith)); rise = p.rise }
 elements_placed (Elements.last_comma {s = s} d) from end h =
     let p = tree_placed d from end h in
     let x = p.order in
     let l = p.rise in
-    record { at = s.to; order = omega arith; part = TreesIn.more {m = p.at} p.part TreesIn.none; rise = l.2 }
+    record { at = s.to; order = omega arith; part = TreesIn.more {m = p.at} p.part (TreesIn.none (omega arith)); rise = l.2 }
 elements_placed (Elements.more {s = s} d e) from end h =
     let p = tree_placed d from end h in
     let x = p.order in
@@ -114,7 +114,7 @@ declarator_placed (Declarator.scalar {s = s}) from end h =
     record {
       at = s.to;
       order = omega arith;
-      part = record { text = record { begins = h.0; covers = h.1; ends = omega arith }; start = InitialIn.bare };
+      part = record { text = record { begins = h.0; covers = h.1; ends = omega arith }; start = (InitialIn.bare (omega arith)) };
       rise = h.2;
     }
 declarator_placed (Declarator.scalar_start {s = s} {o = o} d) from end h =
@@ -136,7 +136,7 @@ declarator_placed (Declarator.array {s = s} {e = e} d) from end h =
     record {
       at = e.to;
       order = omega arith;
-      part = record { text = record { begins = h.0; covers = omega arith; ends = omega arith }; start = InitialIn.bare };
+      part = record { text = record { begins = h.0; covers = omega arith; ends = omega arith }; start = (InitialIn.bare (omega arith)) };
       rise = p.rise;
     }
 declarator_placed (Declarator.array_list {s = s} {e = e} {o = o} {p = z} {q = c} d f) from end h =
@@ -161,7 +161,7 @@ declarators_placed : {r : ℕ} {a b : Tokens} {vs : List Variable} → Declarato
     → Rise from end a → Placed (λ i j. VariablesIn i j vs) from end b
 declarators_placed (Declarators.last d) from end h =
     let p = declarator_placed d from end h in
-    record { at = p.at; order = p.order; part = VariablesIn.more {m = p.at} p.part.text p.part.start VariablesIn.none; rise = p.rise }
+    record { at = p.at; order = p.order; part = VariablesIn.more {m = p.at} p.part.text p.part.start (VariablesIn.none (omega arith)); rise = p.rise }
 declarators_placed (Declarators.more {s = s} d e) from end h =
     let p = declarator_placed d from end h in
     let x = p.order in
@@ -187,7 +187,7 @@ vars_placed (Vars.vars {s = s} {e = e} i d) from end h =
 
 clause_placed : {r : ℕ} {a b : Tokens} {i : First} → Clause r a b i → (from end : ℕ) → Rise from end a
     → Placed (λ k j. FirstIn k j i) from end b
-clause_placed (Clause.empty {e = e}) from end h = record { at = e.to; order = omega arith; part = FirstIn.none; rise = h.2 }
+clause_placed (Clause.empty {e = e}) from end h = record { at = e.to; order = omega arith; part = (FirstIn.none (omega arith)); rise = h.2 }
 clause_placed (Clause.act {e = e} d) from end h =
     let p = tree_placed d from end h in
     let x = p.order in
@@ -199,7 +199,7 @@ clause_placed (Clause.vars d) from end h =
 
 optional_placed : {r : ℕ} {a b : Tokens} {t : Option Tree} → Optional r a b t → (from end : ℕ) → Rise from end a
     → Placed (λ i j. OptionIn i j t) from end b
-optional_placed Optional.absent from end h = record { at = from; order = omega arith; part = OptionIn.absent; rise = h }
+optional_placed Optional.absent from end h = record { at = from; order = omega arith; part = (OptionIn.absent (omega arith)); rise = h }
 optional_placed (Optional.present d) from end h =
     let p = tree_placed d from end h in
     record { at = p.at; order = p.order; part = OptionIn.present p.part; rise = p.rise }
@@ -335,7 +335,7 @@ mutual
 
   body_placed : {r : ℕ} {a b : Tokens} {x : Body} → Items r a b x → (from end : ℕ) → Rise from end a
       → Placed (λ i j. BodyIn i j x) from end b
-  body_placed Items.none from end h = record { at = from; order = omega arith; part = BodyIn.done; rise = h }
+  body_placed Items.none from end h = record { at = from; order = omega arith; part = (BodyIn.done (omega arith)); rise = h }
   body_placed (Items.vars d e) from end h =
       let p = vars_placed d from end h in
       let x = p.order in
@@ -366,7 +366,7 @@ parameters_placed : {r : ℕ} {a b : Tokens} {xs : List Param} → Parameters r 
     → Placed (λ i j. ParamsIn i j xs) from end b
 parameters_placed (Parameters.last d) from end h =
     let p = parameter_placed d from end h in
-    record { at = p.at; order = p.order; part = ParamsIn.more {m = p.at} p.part ParamsIn.none; rise = p.rise }
+    record { at = p.at; order = p.order; part = ParamsIn.more {m = p.at} p.part (ParamsIn.none (omega arith)); rise = p.rise }
 parameters_placed (Parameters.more {s = s} d e) from end h =
     let p = parameter_placed d from end h in
     let x = p.order in
@@ -377,8 +377,8 @@ parameters_placed (Parameters.more {s = s} d e) from end h =
 
 signature_placed : {r : ℕ} {a b : Tokens} {xs : List Param} → Signature r a b xs → (from end : ℕ) → Rise from end a
     → Placed (λ i j. ParamsIn i j xs) from end b
-signature_placed Signature.empty from end h = record { at = from; order = omega arith; part = ParamsIn.none; rise = h }
-signature_placed (Signature.void {s = s}) from end h = record { at = s.to; order = omega arith; part = ParamsIn.none; rise = h.2 }
+signature_placed Signature.empty from end h = record { at = from; order = omega arith; part = (ParamsIn.none (omega arith)); rise = h }
+signature_placed (Signature.void {s = s}) from end h = record { at = s.to; order = omega arith; part = (ParamsIn.none (omega arith)); rise = h.2 }
 signature_placed (Signature.parameters d) from end h = parameters_placed d from end h
 
 external_placed : {r : ℕ} {a b : Tokens} {x : Outer} → External r a b x → (from end : ℕ) → Rise from end a
@@ -397,7 +397,7 @@ external_placed (External.prototype {o = o} {s = s} {p = p} {e = e} {q = q} i d)
       at = q.to;
       order = omega arith;
       part = OuterIn.func {m = x.at} (record { begins = omega arith; covers = omega arith; ends = omega arith }) (params_spread x.part (omega arith) (omega arith))
-          DefinitionIn.absent;
+          (DefinitionIn.absent (omega arith));
       rise = z.2;
     }
 external_placed (External.definition {o = o} {s = s} {p = p} {e = e} {q = q} {z = z} i d f) from end h =
@@ -420,7 +420,7 @@ external_placed (External.definition {o = o} {s = s} {p = p} {e = e} {q = q} {z 
 
 program_placed : {r : ℕ} {a : Tokens} {p : List Outer} → Derives r a p → (from end : ℕ) → Rise from end a
     → ProgramIn from end p
-program_placed (Derives.last d) from end h = let p = external_placed d from end h in ProgramIn.more {m = p.at} p.part ProgramIn.none
+program_placed (Derives.last d) from end h = let p = external_placed d from end h in ProgramIn.more {m = p.at} p.part (ProgramIn.none (omega arith))
 program_placed (Derives.more d e) from end h =
     let p = external_placed d from end h in ProgramIn.more {m = p.at} p.part (program_placed e p.at end p.rise)
 

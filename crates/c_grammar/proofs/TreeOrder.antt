@@ -48,7 +48,7 @@ spread x h g = let w = text_in x in moved x (record { begins = omega arith; cove
 
 -- the same of arguments
 pub args_spread : {i j k l : ℕ} {x : tree.Args} → ArgsIn i j x → k ≤ i → j ≤ l → ArgsIn k l x
-args_spread ArgsIn.no_args h g = ArgsIn.no_args
+args_spread (ArgsIn.no_args o) h g = ArgsIn.no_args (omega arith)
 args_spread (ArgsIn.value {m = m} x y) h g = ArgsIn.value {m = m} (spread x h (omega arith)) (args_spread y (omega arith) g)
 args_spread (ArgsIn.format {m = m} w y) h g =
     ArgsIn.format {m = m} (record { begins = let b = w.begins in omega arith; covers = w.covers; ends = w.ends }) (args_spread y (omega arith) g)
@@ -172,7 +172,7 @@ mutual
   tree_placed (Reads.call_bare {s = s} {o = o} {e = e}) from end h =
       let g = h.2 in
       let l = g.2 in
-      record { at = e.to; order = omega arith; part = TreeIn.call (record { begins = h.0; covers = omega arith; ends = omega arith }) ArgsIn.no_args; rise = l.2 }
+      record { at = e.to; order = omega arith; part = TreeIn.call (record { begins = h.0; covers = omega arith; ends = omega arith }) (ArgsIn.no_args (omega arith)); rise = l.2 }
   tree_placed (Reads.call {s = s} {o = o} {e = e} d) from end h =
       let p = args_placed d o.to end h.2.2 in
       let q = p.order in
@@ -269,7 +269,7 @@ mutual
       → Placed (λ i j. ArgsIn i j (args gs)) from end b
   args_placed (Arguments.last d) from end h =
       let p = given_placed d from end h in
-      record { at = p.at; order = p.order; part = put_in {j = p.at} p.part ArgsIn.no_args; rise = p.rise }
+      record { at = p.at; order = p.order; part = put_in {j = p.at} p.part (ArgsIn.no_args (omega arith)); rise = p.rise }
   args_placed (Arguments.more {s = s} d e) from end h =
       let p = given_placed d from end h in
       let l = p.rise in
