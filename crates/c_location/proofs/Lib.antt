@@ -1,2 +1,4 @@
 mod WalkLemmas
 mod TallyLemmas
+mod Places
+mod Elsewhere
