@@ -25,7 +25,8 @@ module _ (l : Loc) (r : Rewrite) where
   at_assigned-off (Some op) e inside h same = same
 
   -- the parts of a list stay
-  map-off : {A : Type 0} (parts : A → List Located) (to : A → A) → ((x : A) → Nowhere l (parts x) → to x ≡ x) → (xs : List A) → Nowhere l (flat_map parts xs) → map to xs ≡ xs
+  map-off : {A : Type 0} (parts : A → List Located) (to : A → A) → ((x : A) → Nowhere l (parts x) → to x ≡ x)
+      → (xs : List A) → Nowhere l (flat_map parts xs) → map to xs ≡ xs
   map-off parts to same [] h = refl
   map-off parts to same (x ∷ xs) h = ap₂ (λ y ys. y ∷ ys)
       (same x (nowhere_left (parts x) (flat_map parts xs) h))
@@ -54,7 +55,9 @@ module _ (l : Loc) (r : Rewrite) where
         let two = nowhere_left (in_tree place ++ assigned f e) (in_tree e) h in
         ap₂ (λ x y. assign f x y s)
           (tree-off place (nowhere_left (in_tree place) (assigned f e) two))
-          (at_assigned-off f e (to_tree l r e) (nowhere_right (in_tree place) (assigned f e) two) (tree-off e (nowhere_right (in_tree place ++ assigned f e) (in_tree e) h)))
+          (at_assigned-off f e (to_tree l r e)
+            (nowhere_right (in_tree place) (assigned f e) two)
+            (tree-off e (nowhere_right (in_tree place ++ assigned f e) (in_tree e) h)))
     tree-off (bump before up e s) h = ap (λ x. bump before up x s) (tree-off e h)
     tree-off (comma a b s) h = ap₂ (λ x y. comma x y s)
         (tree-off a (nowhere_left (in_tree a) (in_tree b) h))
@@ -104,7 +107,8 @@ module _ (l : Loc) (r : Rewrite) where
 
   -- declared variables
   variables-off : (vs : List Variable) → Nowhere l (in_variables vs) → map (to_variable l r) vs ≡ vs
-  variables-off vs h = map-off (λ v. in_initial v.start) (to_variable l r) (λ v k. ap (λ i. record v { start = i }) (initial-off v.start k)) vs h
+  variables-off vs h =
+      map-off (λ v. in_initial v.start) (to_variable l r) (λ v k. ap (λ i. record v { start = i }) (initial-off v.start k)) vs h
 
   -- the first clause of a `for`
   first-off : (i : First) → Nowhere l (in_first i) → to_first l r i ≡ i
@@ -116,7 +120,8 @@ module _ (l : Loc) (r : Rewrite) where
     -- a statement stays
     code-off : (c : Code) → Nowhere l (in_code c) → to_code l r c ≡ c
     code-off (empty s) h = refl
-    code-off (act e s) h = at_code-off (act e s) (act (to_tree l r e) s) (nowhere_first h) (ap (λ x. act x s) (tree-off e (nowhere_rest h)))
+    code-off (act e s) h =
+        at_code-off (act e s) (act (to_tree l r e) s) (nowhere_first h) (ap (λ x. act x s) (tree-off e (nowhere_rest h)))
     code-off (block body s) h = ap (λ b. block b s) (body-off body h)
     code-off (if_then t a s) h = ap₂ (λ x y. if_then x y s)
         (condition-off t (nowhere_left (in_condition t) (in_code a) h))
@@ -143,7 +148,8 @@ module _ (l : Loc) (r : Rewrite) where
           (step-off u (nowhere_right (in_first f ++ in_test t) (in_step u) three) i)
           (code-off a (nowhere_right (in_first f ++ in_test t ++ in_step u) (in_code a) h) i)
           s
-    code-off (give e s) h = at_code-off (give e s) (give (to_value l r e) s) (nowhere_first h) (ap (λ x. give x s) (value-off e (nowhere_rest h)))
+    code-off (give e s) h =
+        at_code-off (give e s) (give (to_value l r e) s) (nowhere_first h) (ap (λ x. give x s) (value-off e (nowhere_rest h)))
     code-off (break s) h = at_code-off (break s) (break s) (nowhere_first h) refl
     code-off (continue s) h = at_code-off (continue s) (continue s) (nowhere_first h) refl
 

@@ -62,8 +62,10 @@ same_span-is s t e =
 -- a part at a location has it for its own
 pub is_at-loc : (l : Loc) (x : Located) → is_at l x ≡ true → x.loc ≡ l
 is_at-loc l x e =
-    let kind : x.loc.kind ≡ l.kind = sym (same_kind-is l.kind x.loc.kind (first_test (same_kind l.kind x.loc.kind) (same_span x.loc.at l.at) e)) in
-    let at : x.loc.at ≡ l.at = same_span-is x.loc.at l.at (second_test (same_kind l.kind x.loc.kind) (same_span x.loc.at l.at) e) in
+    let kinds : Bool = same_kind l.kind x.loc.kind in
+    let spans : Bool = same_span x.loc.at l.at in
+    let kind : x.loc.kind ≡ l.kind = sym (same_kind-is l.kind x.loc.kind (first_test kinds spans e)) in
+    let at : x.loc.at ≡ l.at = same_span-is x.loc.at l.at (second_test kinds spans e) in
     λ i. record { kind = kind i; at = at i }
 
 -- a test that cannot hold fails
