@@ -47,17 +47,17 @@ module _ (l : Loc) (r : Rewrite) where
     tree-off (choice t a b s) h =
         let two = nowhere_left (in_tree t ++ in_tree a) (in_tree b) h in
         λ i. choice
-          (tree-off t (nowhere_left (in_tree t) (in_tree a) two) i)
-          (tree-off a (nowhere_right (in_tree t) (in_tree a) two) i)
-          (tree-off b (nowhere_right (in_tree t ++ in_tree a) (in_tree b) h) i)
-          s
+        (tree-off t (nowhere_left (in_tree t) (in_tree a) two) i)
+        (tree-off a (nowhere_right (in_tree t) (in_tree a) two) i)
+        (tree-off b (nowhere_right (in_tree t ++ in_tree a) (in_tree b) h) i)
+        s
     tree-off (assign f place e s) h =
         let two = nowhere_left (in_tree place ++ assigned f e) (in_tree e) h in
         ap₂ (λ x y. assign f x y s)
-          (tree-off place (nowhere_left (in_tree place) (assigned f e) two))
-          (at_assigned-off f e (to_tree l r e)
-            (nowhere_right (in_tree place) (assigned f e) two)
-            (tree-off e (nowhere_right (in_tree place ++ assigned f e) (in_tree e) h)))
+        (tree-off place (nowhere_left (in_tree place) (assigned f e) two))
+        (at_assigned-off f e (to_tree l r e)
+        (nowhere_right (in_tree place) (assigned f e) two)
+        (tree-off e (nowhere_right (in_tree place ++ assigned f e) (in_tree e) h)))
     tree-off (bump before up e s) h = ap (λ x. bump before up x s) (tree-off e h)
     tree-off (comma a b s) h = ap₂ (λ x y. comma x y s)
         (tree-off a (nowhere_left (in_tree a) (in_tree b) h))
@@ -129,10 +129,10 @@ module _ (l : Loc) (r : Rewrite) where
     code-off (if_else t a b s) h =
         let two = nowhere_left (in_condition t ++ in_code a) (in_code b) h in
         λ i. if_else
-          (condition-off t (nowhere_left (in_condition t) (in_code a) two) i)
-          (code-off a (nowhere_right (in_condition t) (in_code a) two) i)
-          (code-off b (nowhere_right (in_condition t ++ in_code a) (in_code b) h) i)
-          s
+        (condition-off t (nowhere_left (in_condition t) (in_code a) two) i)
+        (code-off a (nowhere_right (in_condition t) (in_code a) two) i)
+        (code-off b (nowhere_right (in_condition t ++ in_code a) (in_code b) h) i)
+        s
     code-off (while t a s) h = ap₂ (λ x y. while x y s)
         (condition-off t (nowhere_left (in_condition t) (in_code a) h))
         (code-off a (nowhere_right (in_condition t) (in_code a) h))
@@ -143,11 +143,11 @@ module _ (l : Loc) (r : Rewrite) where
         let three = nowhere_left (in_first f ++ in_test t ++ in_step u) (in_code a) h in
         let two = nowhere_left (in_first f ++ in_test t) (in_step u) three in
         λ i. for
-          (first-off f (nowhere_left (in_first f) (in_test t) two) i)
-          (test-off t (nowhere_right (in_first f) (in_test t) two) i)
-          (step-off u (nowhere_right (in_first f ++ in_test t) (in_step u) three) i)
-          (code-off a (nowhere_right (in_first f ++ in_test t ++ in_step u) (in_code a) h) i)
-          s
+        (first-off f (nowhere_left (in_first f) (in_test t) two) i)
+        (test-off t (nowhere_right (in_first f) (in_test t) two) i)
+        (step-off u (nowhere_right (in_first f ++ in_test t) (in_step u) three) i)
+        (code-off a (nowhere_right (in_first f ++ in_test t ++ in_step u) (in_code a) h) i)
+        s
     code-off (give e s) h =
         at_code-off (give e s) (give (to_value l r e) s) (nowhere_first h) (ap (λ x. give x s) (value-off e (nowhere_rest h)))
     code-off (break s) h = at_code-off (break s) (break s) (nowhere_first h) refl
