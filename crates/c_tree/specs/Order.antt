@@ -1,5 +1,6 @@
 -- Trees whose spans are in text order, as those of a parsed source are: no span is empty, the text of a part lies inside the text of
--- the whole, and the parts follow one another in it. Each relation says so of a part that lies between two places of the text.
+-- the whole, and the parts follow one another in it. Each relation says so of a part that lies between two places of the text, the
+-- second never before the first, also where the part is empty or absent.
 use Rattle.std.specs.Prelude.{ℕ, ℤ, suc, ◌<◌, ◌≤◌, Bool, List, [], ◌∷◌, Option, Some, None}
 use Rattle.c_tree.specs.declared.place.Span.{Span}
 use Rattle.c_tree.specs.declared.stmt.Slot.{Slot}
@@ -33,35 +34,35 @@ mutual
 
   -- the same of arguments
   pub data ArgsIn : ℕ → ℕ → Args → Type 0 where
-    no_args : {from to : ℕ} → ArgsIn from to tree.no_args
+    no_args : {from to : ℕ} → from ≤ to → ArgsIn from to tree.no_args
     value : {from to m : ℕ} {e : Tree} {rest : Args} → TreeIn from m e → ArgsIn m to rest → ArgsIn from to (tree.value e rest)
     format : {from to m : ℕ} {f : List ℕ} {s : Span} {rest : Args} → Within from m s → ArgsIn m to rest → ArgsIn from to (tree.format f s rest)
     address : {from to m : ℕ} {e : Tree} {rest : Args} → TreeIn from m e → ArgsIn m to rest → ArgsIn from to (tree.address e rest)
 
 -- the same of expressions one after another
 pub data TreesIn : ℕ → ℕ → List Tree → Type 0 where
-  none : {from to : ℕ} → TreesIn from to []
+  none : {from to : ℕ} → from ≤ to → TreesIn from to []
   more : {from to m : ℕ} {e : Tree} {es : List Tree} → TreeIn from m e → TreesIn m to es → TreesIn from to (e ∷ es)
 
 -- the same of an expression that may be absent
 pub data OptionIn : ℕ → ℕ → Option Tree → Type 0 where
-  absent : {from to : ℕ} → OptionIn from to None
+  absent : {from to : ℕ} → from ≤ to → OptionIn from to None
   present : {from to : ℕ} {e : Tree} → TreeIn from to e → OptionIn from to (Some e)
 
 -- the same of an initialiser
 pub data InitialIn : ℕ → ℕ → Initial → Type 0 where
-  bare : {from to : ℕ} → InitialIn from to tree.bare_start
+  bare : {from to : ℕ} → from ≤ to → InitialIn from to tree.bare_start
   one : {from to : ℕ} {e : Tree} → TreeIn from to e → InitialIn from to (tree.one_start e)
   many : {from to : ℕ} {es : List Tree} → TreesIn from to es → InitialIn from to (tree.list_start es)
 
 -- the same of declared variables: the initialiser of each comes after its name
 pub data VariablesIn : ℕ → ℕ → List Variable → Type 0 where
-  none : {from to : ℕ} → VariablesIn from to []
+  none : {from to : ℕ} → from ≤ to → VariablesIn from to []
   more : {from to m : ℕ} {v : Variable} {vs : List Variable} → Within from m v.span → InitialIn v.span.to m v.start → VariablesIn m to vs → VariablesIn from to (v ∷ vs)
 
 -- the same of the first clause of a `for`
 pub data FirstIn : ℕ → ℕ → First → Type 0 where
-  none : {from to : ℕ} → FirstIn from to tree.no_first
+  none : {from to : ℕ} → from ≤ to → FirstIn from to tree.no_first
   act : {from to : ℕ} {e : Tree} → TreeIn from to e → FirstIn from to (tree.first_act e)
   vars : {from to : ℕ} {ty : Ty} {vs : List Variable} → VariablesIn from to vs → FirstIn from to (tree.first_vars ty vs)
 
@@ -82,18 +83,18 @@ mutual
 
   -- the same of the items of a block
   pub data BodyIn : ℕ → ℕ → Body → Type 0 where
-    done : {from to : ℕ} → BodyIn from to tree.done
+    done : {from to : ℕ} → from ≤ to → BodyIn from to tree.done
     next : {from to m : ℕ} {a : Code} {rest : Body} → CodeIn from m a → BodyIn m to rest → BodyIn from to (tree.next a rest)
     vars : {from to m : ℕ} {ty : Ty} {vs : List Variable} {rest : Body} → VariablesIn from m vs → BodyIn m to rest → BodyIn from to (tree.vars ty vs rest)
 
 -- the same of parameters
 pub data ParamsIn : ℕ → ℕ → List Param → Type 0 where
-  none : {from to : ℕ} → ParamsIn from to []
+  none : {from to : ℕ} → from ≤ to → ParamsIn from to []
   more : {from to m : ℕ} {p : Param} {ps : List Param} → Within from m p.span → ParamsIn m to ps → ParamsIn from to (p ∷ ps)
 
 -- the same of a body that may be absent
 pub data DefinitionIn : ℕ → ℕ → Option Body → Type 0 where
-  absent : {from to : ℕ} → DefinitionIn from to None
+  absent : {from to : ℕ} → from ≤ to → DefinitionIn from to None
   present : {from to : ℕ} {body : Body} → BodyIn from to body → DefinitionIn from to (Some body)
 
 -- the same of what stands at file scope; the text of a function begins with its name
@@ -103,5 +104,5 @@ pub data OuterIn : ℕ → ℕ → Outer → Type 0 where
 
 -- the same of a program
 pub data ProgramIn : ℕ → ℕ → List Outer → Type 0 where
-  none : {from to : ℕ} → ProgramIn from to []
+  none : {from to : ℕ} → from ≤ to → ProgramIn from to []
   more : {from to m : ℕ} {x : Outer} {p : List Outer} → OuterIn from m x → ProgramIn m to p → ProgramIn from to (x ∷ p)
