@@ -2,3 +2,6 @@ mod WalkLemmas
 mod TallyLemmas
 mod Places
 mod Elsewhere
+mod Rises
+mod Sound
+mod InOrder
