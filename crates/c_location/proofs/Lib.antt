@@ -5,3 +5,4 @@ mod Elsewhere
 mod Rises
 mod Sound
 mod InOrder
+mod Found

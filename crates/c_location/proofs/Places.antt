@@ -1,5 +1,5 @@
 -- Whether one of the parts in a list is at a location, by recursion on the list.
-use Rattle.std.proofs.Common.{◌≡◌, zero, suc, Bool, true, false, ◌&&◌, nat_eq, List, [], ◌∷◌, ◌++◌, map, refl, sym, eqb-true, suc-le-suc, Contains, arith}
+use Rattle.std.proofs.Common.{◌≡◌, zero, suc, Bool, true, false, ◌&&◌, nat_eq, List, [], ◌∷◌, ◌++◌, map, refl, sym, eqb-true, subst, eq-eqb, suc-le-suc, Contains, arith}
 use Rattle.c_tree.specs.declared.place.Loc.{Loc}
 use Rattle.c_tree.specs.declared.place.LocKind.{LocKind}
 use Rattle.c_tree.specs.declared.place.LocKind.TheVariants.{Guard, Cond, Right}
@@ -79,3 +79,20 @@ nowhere l [] h = none
 nowhere l (x ∷ xs) h = more
     (fails (is_at l x) (λ e. h (zero, omega arith, is_at-loc l x e)))
     (nowhere l xs (λ k. h (suc k.0, suc-le-suc k.1, k.2)))
+
+-- each kind passes for itself
+same_kind-refl : (k : LocKind) → same_kind k k ≡ true
+same_kind-refl Guard = refl
+same_kind-refl Cond = refl
+same_kind-refl Right = refl
+
+-- two tests that hold do so together
+both_tests : (a b : Bool) → a ≡ true → b ≡ true → (a && b) ≡ true
+both_tests a b p q = λ i. p i && q i
+
+-- each part is at its own location
+pub is_at-own : (l : Loc) (x : Located) → x.loc ≡ l → is_at l x ≡ true
+is_at-own l x e = subst (λ m. is_at m x ≡ true) e
+    (both_tests (same_kind x.loc.kind x.loc.kind) (same_span x.loc.at x.loc.at) (same_kind-refl x.loc.kind)
+    (both_tests (nat_eq x.loc.at.from x.loc.at.from) (nat_eq x.loc.at.to x.loc.at.to)
+    (eq-eqb x.loc.at.from x.loc.at.from refl) (eq-eqb x.loc.at.to x.loc.at.to refl)))
