@@ -1,2 +1,8 @@
 mod WalkLemmas
 mod TallyLemmas
+mod Places
+mod Elsewhere
+mod Rises
+mod Sound
+mod InOrder
+mod Found
