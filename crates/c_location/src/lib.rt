@@ -11,5 +11,7 @@ mod walk;
 
 pub use change::Change;
 pub use fault::LocFault;
-pub use laws::{each_names_one_place, locations_rise, nothing_elsewhere};
+pub use laws::{
+    each_names_one_place, locations_rise, nothing_elsewhere, one_location_at_each_byte,
+};
 pub use list::locations;
