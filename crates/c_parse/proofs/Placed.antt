@@ -18,7 +18,7 @@ first_within : (from end : ℕ) (a : Tokens) → Rise from end a → place_of en
 first_within from end [] h = omega arith
 first_within from end ((k, s) ∷ a) h = let i = rise_within s.to end a h.2 in omega arith
 
--- so does each token behind it
+-- so does each token after it
 placed : {a b : Tokens} (from end : ℕ) → Rise from end a → Tail a b → place_of end b ≤ end
 placed from end h (Tail.all {a}) = first_within from end a h
 placed from end h (Tail.later {x} d) = placed x.1.to end h.2 d
