@@ -8,6 +8,7 @@ ghost use Rattle.c_grammar.specs.Grammar.{Tokens};
 ghost use Rattle.c_grammar.specs.Programs.{Derives};
 ghost use Rattle.c_grammar.specs.Leads as leads;
 ghost use Rattle.c_grammar.specs.ProgramDescent as spec;
+ghost use Rattle.c_grammar.specs.BegunNesting.{Passes};
 ghost use Rattle.c_grammar.specs.Judge.{good, unexpected_at, too_deep_at, Judged, judge};
 ghost use Rattle.c_parse.specs.Gives as seen;
 ghost use Rattle.c_parse.specs.Gives.{Parses, itself};
@@ -182,13 +183,13 @@ fn fault_place(cursor: &Cursor<'_>, end: u32) -> u32
 /// # Errors
 ///
 /// `Unexpected` at the first token with which, or with the end of the tokens, nothing is a program; `TooDeep` at the
-/// first token that could go on only with a 65th opener open; `NoMemory` where the allocator has no memory left.
+/// first token at which the nesting is 65; `NoMemory` where the allocator has no memory left.
 pub fn parse(alloc: Global, tokens: &[Token], end: u32) -> Result<Program, ParseFault>
     ensures derived { IfOk result (λ p. Derives 64 tokens.now (program_tree p)) }
     ensures refused { IfErr result (λ e. Causes end tokens.now e) }
     ensures accepts { (p : List plain.Outer) → Derives 64 tokens.now p → Says end (good p) result }
     ensures expects { (b : Tokens) → Judged 64 tokens.now (unexpected_at b) → Says end (unexpected_at b) result }
-    ensures nests { (b : Tokens) → Judged 64 tokens.now (too_deep_at b) → Says end (too_deep_at b) result }
+    ensures nests { (b : Tokens) → Passes 64 tokens.now b → Says end (too_deep_at b) result }
     ensures placed { Rise 0 end tokens.now → IfErr result (IsPlaced end) }
 {
     parse_program(alloc, tokens, end)
