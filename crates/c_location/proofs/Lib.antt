@@ -1,2 +1,3 @@
-mod WalkLemmas
+mod SpanLemmas
 mod TallyLemmas
+mod WalkLemmas
