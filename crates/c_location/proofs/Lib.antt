@@ -1,3 +1,4 @@
 mod SpanLemmas
 mod TallyLemmas
 mod WalkLemmas
+mod PartLemmas

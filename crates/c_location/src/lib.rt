@@ -6,6 +6,7 @@ mod change;
 mod fault;
 mod laws;
 mod list;
+mod part;
 mod tally;
 mod walk;
 
@@ -13,3 +14,4 @@ pub use change::Change;
 pub use fault::LocFault;
 pub use laws::{each_names_one_place, locations_rise, nothing_elsewhere};
 pub use list::locations;
+pub use part::{Part, is_at, part_at};
