@@ -2,3 +2,4 @@ mod SpanLemmas
 mod TallyLemmas
 mod WalkLemmas
 mod PartLemmas
+mod ChangeLemmas

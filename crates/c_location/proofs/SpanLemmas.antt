@@ -30,7 +30,7 @@ pub span_of-tree : (e : Expr) → span_of (tree e) ≡ e.span
 span_of-tree e = span_of-node e.node e.span
 
 -- a statement covers its span, whatever stands there
-span_of-kind : (n : StmtNode) (s : Span) → span_of_code (node_code n s) ≡ s
+pub span_of-kind : (n : StmtNode) (s : Span) → span_of_code (node_code n s) ≡ s
 span_of-kind Empty s = refl
 span_of-kind (Act e) s = refl
 span_of-kind (Block' _ items) s = refl
@@ -46,3 +46,5 @@ span_of-kind Continue s = refl
 -- a statement covers its span
 pub span_of-code : (st : Stmt) → span_of_code (code st) ≡ st.span
 span_of-code st = span_of-kind st.node st.span
+
+pub ruleset span_steps = (span_of-tree, span_of-kind)

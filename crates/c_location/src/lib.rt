@@ -7,6 +7,7 @@ mod fault;
 mod laws;
 mod list;
 mod part;
+mod rewrite;
 mod tally;
 mod walk;
 
@@ -15,3 +16,4 @@ pub use fault::LocFault;
 pub use laws::{each_names_one_place, locations_rise, nothing_elsewhere};
 pub use list::locations;
 pub use part::{Part, is_at, part_at};
+pub use rewrite::change_at;
