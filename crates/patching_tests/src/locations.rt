@@ -1,39 +1,10 @@
 //! Programs whose locations are listed by hand.
 
-use crate::{LocFault, locations};
-use c_tree::{
-    BinOp, Declarator, Expr, ExprNode, External, Func, Init, Item, Loc, LocKind, NoMemory, Program,
-    Shape, Slot, Span, Start, Stmt, StmtNode, Text, Ty,
-};
-use c_types::{Typed, check};
+use crate::build::{declaration, digit, name, program, span, statements, typed};
+use c_location::{LocFault, locations};
+use c_tree::{BinOp, Expr, ExprNode, Init, Item, Loc, LocKind, NoMemory, Span, Stmt, StmtNode};
 use std::alloc::Global;
 use std::test::Fail;
-
-fn span(from: u32, to: u32) -> Span {
-    Span { from, to }
-}
-
-fn word(alloc: Global, letter: u8) -> Result<Text, NoMemory> {
-    Ok(Text::new(vec![in alloc; letter]?))
-}
-
-/// The variable `a`.
-fn name(alloc: Global, at: Span) -> Result<Expr, NoMemory> {
-    let node = ExprNode::Name {
-        word: word(alloc, b'a')?,
-        slot: Slot::Unset,
-    };
-    Ok(Expr { node, span: at })
-}
-
-/// A number of one digit.
-fn digit(alloc: Global, at: Span) -> Result<Expr, NoMemory> {
-    let node = ExprNode::Const {
-        value: 1,
-        word: word(alloc, b'1')?,
-    };
-    Ok(Expr { node, span: at })
-}
 
 fn assign(
     alloc: Global,
@@ -52,7 +23,13 @@ fn assign(
 
 /// `a = 1`, with the spans of the whole and of the number.
 fn assign_digit(alloc: Global, at: Span, value: Span) -> Result<Expr, NoMemory> {
-    assign(alloc, None, name(alloc, at)?, digit(alloc, value)?, at)
+    assign(
+        alloc,
+        None,
+        name(alloc, b'a', at)?,
+        digit(alloc, value)?,
+        at,
+    )
 }
 
 fn block(alloc: Global, only: StmtNode, at: Span) -> Result<Box<Stmt>, NoMemory> {
@@ -70,36 +47,16 @@ fn block(alloc: Global, only: StmtNode, at: Span) -> Result<Box<Stmt>, NoMemory>
     )?)
 }
 
-/// The `Typed` of a function with these items, of which the first declares `a`.
-fn typed(alloc: Global, items: Vec<Item>) -> Result<Typed, Fail> {
-    let mut externals = Vec::new(alloc);
-    externals.push(External::Func(Func {
-        word: word(alloc, b'm')?,
-        span: span(0, 0),
-        ret: Some(Ty::Int),
-        params: Vec::new(alloc),
-        body: Some(items),
-    }))?;
-    Ok(check(alloc, Program { externals }, 0)?)
-}
-
-/// `int a=7;`
-fn declaration(alloc: Global) -> Result<Item, NoMemory> {
-    let mut declarators = Vec::new(alloc);
-    declarators.push(Declarator {
-        word: word(alloc, b'a')?,
-        slot: Slot::Unset,
-        span: span(4, 5),
-        shape: Shape::Scalar,
-        start: Start::One(digit(alloc, span(6, 7))?),
-    })?;
-    Ok(Item::Vars(Ty::Int, declarators))
-}
-
 /// `a=a=8;` and `a+=a=9;`
 fn add_assignments(alloc: Global, items: &mut Vec<Item>) -> Result<(), NoMemory> {
     let plain = assign_digit(alloc, span(11, 14), span(13, 14))?;
-    let outer = assign(alloc, None, name(alloc, span(9, 10))?, plain, span(9, 14))?;
+    let outer = assign(
+        alloc,
+        None,
+        name(alloc, b'a', span(9, 10))?,
+        plain,
+        span(9, 14),
+    )?;
     items.push(Item::Stmt(Stmt {
         node: StmtNode::Act(outer),
         span: span(9, 15),
@@ -108,7 +65,7 @@ fn add_assignments(alloc: Global, items: &mut Vec<Item>) -> Result<(), NoMemory>
     let outer = assign(
         alloc,
         Some(BinOp::Add),
-        name(alloc, span(16, 17))?,
+        name(alloc, b'a', span(16, 17))?,
         plain,
         span(16, 22),
     )?;
@@ -133,7 +90,7 @@ fn add_branch_and_loop(alloc: Global, items: &mut Vec<Item>) -> Result<(), NoMem
         span: span(24, 45),
     }))?;
     let body = block(alloc, StmtNode::Continue, span(49, 58))?;
-    let test = name(alloc, span(65, 66))?;
+    let test = name(alloc, b'a', span(65, 66))?;
     items.push(Item::Stmt(Stmt {
         node: StmtNode::Do { body, test },
         span: span(46, 68),
@@ -144,9 +101,9 @@ fn add_branch_and_loop(alloc: Global, items: &mut Vec<Item>) -> Result<(), NoMem
 /// `for(a=2;a;a=3)return a;` and `return;`
 fn add_for_and_return(alloc: Global, items: &mut Vec<Item>) -> Result<(), NoMemory> {
     let init = Init::Act(assign_digit(alloc, span(73, 76), span(75, 76))?);
-    let test = Some(name(alloc, span(77, 78))?);
+    let test = Some(name(alloc, b'a', span(77, 78))?);
     let step = Some(assign_digit(alloc, span(79, 82), span(81, 82))?);
-    let value = Some(name(alloc, span(90, 91))?);
+    let value = Some(name(alloc, b'a', span(90, 91))?);
     let body = Box::new(
         alloc,
         Stmt {
@@ -170,7 +127,7 @@ fn add_for_and_return(alloc: Global, items: &mut Vec<Item>) -> Result<(), NoMemo
     Ok(())
 }
 
-/// `int a=7; a=a=8; a+=a=9; if(a=1){break;}else{} do{continue;}while(a); for(a=2;a;a=3)return a; return;`
+/// `int a=1; a=a=8; a+=a=9; if(a=1){break;}else{} do{continue;}while(a); for(a=2;a;a=3)return a; return;`
 #[test]
 fn each_kind_stands_in_text_order(rt: HostRuntime) -> Result<(), Fail> {
     let alloc = rt.alloc();
@@ -179,7 +136,7 @@ fn each_kind_stands_in_text_order(rt: HostRuntime) -> Result<(), Fail> {
     add_assignments(alloc, &mut items)?;
     add_branch_and_loop(alloc, &mut items)?;
     add_for_and_return(alloc, &mut items)?;
-    let found = locations(alloc, &typed(alloc, items)?)?;
+    let found = locations(alloc, &program(alloc, items)?)?;
     let want = [
         (LocKind::Right, 6, 7),
         (LocKind::Guard, 9, 15),
@@ -212,27 +169,14 @@ fn each_kind_stands_in_text_order(rt: HostRuntime) -> Result<(), Fail> {
     Ok(())
 }
 
-/// A function of `int a=7;`, with one location, and of so many statements `break;`, with one each.
-fn breaks(alloc: Global, statements: u32) -> Result<Typed, Fail> {
-    let mut items = Vec::new(alloc);
-    items.push(declaration(alloc)?)?;
-    for _ in 0..statements {
-        items.push(Item::Stmt(Stmt {
-            node: StmtNode::Break,
-            span: span(9, 15),
-        }))?;
-    }
-    typed(alloc, items)
-}
-
 #[test]
 fn more_than_the_limit_are_refused(rt: HostRuntime) -> Result<(), Fail> {
     let alloc = rt.alloc();
-    let found = locations(alloc, &breaks(alloc, 4095)?)?;
-    assert_eq!(rt; found.len(), 4096);
-    for (statements, count) in [(4096, 4097), (4999, 5000)] {
-        let refused = locations(alloc, &breaks(alloc, statements)?);
-        assert!(rt; matches!(refused, Err(LocFault::TooMany(n)) if n == count));
+    let checked = typed(alloc, statements(alloc, 4095)?)?;
+    assert_eq!(rt; schemas::locations(alloc, &checked)?.len(), 4096);
+    for (count, all) in [(4096, 4097), (4999, 5000)] {
+        let refused = locations(alloc, &program(alloc, statements(alloc, count)?)?);
+        assert!(rt; matches!(refused, Err(LocFault::TooMany(n)) if n == all));
     }
     Ok(())
 }
