@@ -15,6 +15,7 @@ use c_tree::{
 };
 
 /// A part of a program.
+#[derive(Clone, Copy)]
 pub enum Part<'a> {
     /// A condition or a right side.
     Expr(&'a Expr),
