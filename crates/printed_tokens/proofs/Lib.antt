@@ -1,0 +1,4 @@
+pub mod Tight
+pub mod Safe
+pub mod Sourced
+pub mod SourcedProgram
