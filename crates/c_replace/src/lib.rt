@@ -3,4 +3,4 @@
 
 mod laws;
 
-pub use laws::read_by_kinds;
+pub use laws::{read_by_kinds, tokens_changed, tokens_replaced};
