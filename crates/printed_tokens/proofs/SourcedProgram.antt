@@ -77,9 +77,9 @@ module _ (m : Macros) where
     statement (Statement.do_while d e) h =
         let x = statement d h.1 in let y = sourced m e x.1.1.1 in ((x.0, y.0), y.1.1.1)
     statement (Statement.for c d e f) h =
-        let x =
-        clause c h.1.1 in let y = optional d x.1 in let z = optional e y.1.1 in
-        let w = statement f z.1.1 in ((x.0, y.0, z.0, w.0), w.1)
+        let x = clause c h.1.1 in let y = optional d x.1 in
+        let z = optional e y.1.1 in let w = statement f z.1.1 in
+        ((x.0, y.0, z.0, w.0), w.1)
     statement (Statement.give d) h = let x = optional d h.1 in (x.0, x.1.1)
     statement Statement.break h = (tt, h.1.1)
     statement Statement.continue h = (tt, h.1.1)

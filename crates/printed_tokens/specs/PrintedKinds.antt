@@ -53,9 +53,8 @@ type_key Char = key.Char
 abbrev pub enclosed : List TokenKind → List TokenKind
 enclosed ks = kind.Punct mark.OpenParen ∷ (ks ++ kind.Punct mark.CloseParen ∷ [])
 
--- the tokens of an expression with these tokens, as an operand: a constant, a name and an element
--- stand bare, all else
--- in parentheses
+-- an expression with these tokens, as an operand: a constant, a name and an element stand bare, all
+-- else in parentheses
 abbrev pub operand_kinds : Tree → List TokenKind → List TokenKind
 operand_kinds (constant n w s) ks = ks
 operand_kinds (name w v s) ks = ks
@@ -67,19 +66,18 @@ abbrev pub printed_kinds : Tree → List TokenKind
 printed_kinds (constant n w s) = kind.Const n w ∷ []
 printed_kinds (name w v s) = kind.Name w ∷ []
 printed_kinds (index w v e s) =
-    kind.Name w ∷ kind.Punct mark.OpenBracket ∷
-    (printed_kinds e ++ kind.Punct mark.CloseBracket ∷ [])
+    kind.Name w ∷ kind.Punct mark.OpenBracket ∷ (printed_kinds e ++ kind.Punct mark.CloseBracket ∷ [])
 printed_kinds (call w args s) = []
 printed_kinds (unary op e s) = kind.Punct (sign_mark op) ∷ operand_kinds e (printed_kinds e)
 printed_kinds (cast ty e s) =
-    kind.Punct mark.OpenParen ∷ kind.Word
-    (type_key ty) ∷ kind.Punct mark.CloseParen ∷ operand_kinds e (printed_kinds e)
+    enclosed (kind.Word (type_key ty) ∷ []) ++ operand_kinds e (printed_kinds e)
 printed_kinds (binary op l r s) =
-    operand_kinds l (printed_kinds l) ++ kind.Punct (symbol_mark op) ∷ operand_kinds r
-    (printed_kinds r)
+    operand_kinds l (printed_kinds l)
+    ++ kind.Punct (symbol_mark op) ∷ operand_kinds r (printed_kinds r)
 printed_kinds (choice t a b s) =
-    operand_kinds t (printed_kinds t) ++ kind.Punct mark.Question ∷
-    (operand_kinds a (printed_kinds a) ++ kind.Punct mark.Colon ∷ operand_kinds b (printed_kinds b))
+    operand_kinds t (printed_kinds t)
+    ++ kind.Punct mark.Question ∷ (operand_kinds a (printed_kinds a)
+    ++ kind.Punct mark.Colon ∷ operand_kinds b (printed_kinds b))
 printed_kinds (assign op place e s) = []
 printed_kinds (bump before up place s) = []
 printed_kinds (comma l r s) =

@@ -4,5 +4,6 @@
 mod laws;
 
 pub use laws::{
-    cut_into_its_tokens, makes_no_trigraph, pure_prints, words_of_the_source, zero_and_one,
+    cut_into_its_tokens, makes_no_trigraph, pure_prints, tokens_derive_it, words_of_the_source,
+    zero_and_one,
 };
