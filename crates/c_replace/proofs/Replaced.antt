@@ -1,5 +1,5 @@
 -- At each location of a program, others can stand in the place of its tokens.
-use Rattle.std.proofs.Common.{◌≡◌, ℕ, false, Option, Some, None, List, [], ◌∷◌, ◌++◌, sym, ap, ◌∙◌, subst, append_assoc, find, option_map}
+use Rattle.std.proofs.Common.{◌≡◌, ℕ, false, Option, Some, None, List, [], ◌∷◌, ◌++◌, sym, ap, ◌∙◌, subst, append_assoc, find, option_map, Contains, arith}
 use Rattle.std.proofs.lemmas.List.{append-nil}
 use Rattle.c_lex.specs.declared.token.TokenKind.{TokenKind}
 use Rattle.c_lex.specs.declared.token.TokenKind.TheVariants as kind
@@ -10,9 +10,10 @@ use Rattle.c_tree.specs.declared.place.Loc.{Loc}
 use Rattle.c_tree.specs.declared.place.LocKind.{LocKind}
 use Rattle.c_tree.specs.declared.place.LocKind.TheVariants.{Guard, Cond, Right}
 use Rattle.c_tree.specs.declared.place.Span.{Span}
-use Rattle.c_tree.specs.Tree.{Tree, Code, Outer, bare, bare_code, bare_program}
+use Rattle.c_tree.specs.Tree.{Tree, Code, Outer, bare, bare_code, bare_program, no_span}
 use Rattle.c_location.specs.Changes.{replaced, guarded}
-use Rattle.c_location.specs.Locations.{Part, expression, statement, located, is_at}
+use Rattle.c_location.specs.Locations.{Part, expression, statement, located, locations, is_at}
+use Rattle.c_location.specs.Laws.{NothingElsewhere}
 use Rattle.c_location.specs.OnePlace.{IsOf, NamesOnePlace}
 use Rattle.c_location.specs.Rewrites.{Rewrite, rewrite, rewritten}
 use Rattle.c_grammar.specs.declared.part.Part.TheVariants.{Expression, Assignment}
@@ -22,7 +23,7 @@ use Rattle.c_replace.specs.Shapes.{Shaped}
 use Rattle.c_replace.specs.Forms.{Formed, ShapedProgram}
 use Rattle.c_replace.specs.Replacing.{IsPart, Fits, Replaceable, guarded_kinds, ReplaceableBy}
 use Rattle.c_replace.proofs.Statements as shape
-use Rattle.c_replace.proofs.Holes.{Edited}
+use Rattle.c_replace.proofs.Holes.{Edited, hole_within}
 use Rattle.c_replace.proofs.EditedPrograms.{Inside, ProgramKinds, program}
 
 -- a program that holds a location, which names one place of it
@@ -56,12 +57,40 @@ pub replaceable : (r end : ℕ) (a : Tokens) (p : List Outer) (l : Loc) → Deri
     → Replaceable l p a
 replaceable r end a p l d rise n = by_place a p l n (program l d 0 end rise)
 
+-- ---- programs by the kinds of their tokens
+
+-- no location is the condition with no text
+nowhere : Loc
+nowhere = record { kind = Cond; at = no_span }
+
+-- every part stays
+unchanged : Rewrite
+unchanged = record { tree = λ e. e; code = λ c. c }
+
+-- a program in which nothing is replaced
+by_kinds : (end : ℕ) (a : Tokens) (p : List Outer) → Rise 0 end a → ((l : Loc) → Contains (locations p) l → NamesOnePlace l p)
+    → NothingElsewhere → Edited nowhere (Inside nowhere) (ProgramKinds nowhere p) (located p) a
+    → ShapedProgram (kinds a) (bare_program p)
+unfolding nowhere
+by_kinds end a p rise names stays (Edited.kept none k) =
+    let absent : Contains (locations p) nowhere → ⊥ = λ among.
+        let n = names nowhere among in
+        let nothing : None ≡ Some n.part = sym (ap (option_map (λ x. x.part)) none) ∙ n.found in
+        absurd (cc) in
+    subst (λ q. ShapedProgram (kinds a) (bare_program q)) (stays p nowhere unchanged absent) (k unchanged)
+by_kinds end a p rise names stays (Edited.holed h) = let w = hole_within 0 end rise h in absurd (omega (arith, w.1))
+
+-- all tokens of the kinds of a program's tokens are the program
+pub program_by_kinds : (r end : ℕ) (a : Tokens) (p : List Outer) → Derives r a p → Rise 0 end a
+    → ((l : Loc) → Contains (locations p) l → NamesOnePlace l p) → NothingElsewhere → ShapedProgram (kinds a) (bare_program p)
+program_by_kinds r end a p d rise names stays = by_kinds end a p rise names stays (program nowhere d 0 end rise)
+
 -- ---- the changes that a patch makes
 
 -- a block that holds an `if` with the test round a statement
-guard_formed : {test old : List TokenKind} {new : Tree} (c : Code) → Shaped Expression test (bare new) → Formed (Statement false) bare_code old (bare_code c)
+guard_formed : {test old : List TokenKind} (new : Tree) (c : Code) → Shaped Expression test (bare new) → Formed (Statement false) bare_code old (bare_code c)
     → Formed (Statement false) bare_code (guarded_kinds test old) (bare_code ((guarded new).code c))
-guard_formed {test} {old} {new} c f g =
+guard_formed {test} {old} new c f g =
     let tail = kind.Punct mark.CloseBrace ∷ [] in
     let inner = kind.Word key.If ∷ kind.Punct mark.OpenParen ∷ (test ++ kind.Punct mark.CloseParen ∷ old) in
     let same : kind.Punct mark.OpenBrace ∷ ((inner ++ []) ++ tail) ≡ guarded_kinds test old =
@@ -88,7 +117,7 @@ side_fits Cond at part ks new i o s = absurd (cc)
 -- a statement with an `if` round it fits
 guard_fits : (k : LocKind) (at : Span) (part : Part) (test old : List TokenKind) (new : Tree) → k ≡ Guard → IsOf k at part → IsPart old part → Shaped Expression test (bare new)
     → Fits k (guarded_kinds test old) (rewrite (guarded new) part)
-guard_fits Guard at (statement c) test old new i o g f = guard_formed c f g
+guard_fits Guard at (statement c) test old new i o g f = guard_formed new c f g
 guard_fits Guard at (expression e) test old new i o g f = absurd o
 guard_fits Right at part test old new i o g f = absurd (cc)
 guard_fits Cond at part test old new i o g f = absurd (cc)

@@ -50,6 +50,10 @@ pub record Replaceable (l : Loc) (p : List Outer) (a : Tokens) : Type 0 where
   pub replaced : (ks : List TokenKind) (r : Rewrite) → Fits l.kind ks (rewrite r part)
       → ShapedProgram (kinds before ++ (ks ++ kinds after)) (bare_program (rewritten l r p))
 
+-- All tokens of the kinds of a program's tokens are the same program, but for spans, slots and the spelling of constants.
+abbrev pub ProgramsByKinds : Type 0
+ProgramsByKinds = (r end : ℕ) (a : Tokens) (p : List Outer) → Derives r a p → Rise 0 end a → ShapedProgram (kinds a) (bare_program p)
+
 -- At each location of a program, others can stand in the place of its tokens.
 abbrev pub EachReplaceable : Type 0
 EachReplaceable = (r end : ℕ) (a : Tokens) (p : List Outer) (l : Loc) → Derives r a p → Rise 0 end a → Contains (locations p) l

@@ -82,3 +82,7 @@ pub record Own (N : Part) (a b : Tokens) (t : Tree) : Type 0 where
   pub covers : Covers own (span_of t)
   pub settled : is_settled own ≡ true
   pub whole : is_whole t ≡ true
+
+-- What is read as an expression has tokens of its own, and all tokens of their kinds are the same expression.
+abbrev pub ExpressionsByKinds : Type 0
+ExpressionsByKinds = (N : Part) (r m : ℕ) (a b : Tokens) (t : Tree) → Reads N r a m b t → Own N a b t
