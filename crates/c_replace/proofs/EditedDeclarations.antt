@@ -1,9 +1,7 @@
 -- Declarations and a location: each holds the location, or stays what it is.
 use Rattle.std.proofs.Common.{◌≡◌, ℕ, true, List, [], ◌∷◌, ◌++◌, map, Option, sym, refl, ap, ◌∙◌, subst, append_assoc}
 use Rattle.std.specs.List.{flat_map}
-use Rattle.c_lex.specs.declared.token.TokenKind.{TokenKind}
 use Rattle.c_lex.specs.declared.token.TokenKind.TheVariants as kind
-use Rattle.c_lex.specs.declared.token.Keyword.TheVariants as key
 use Rattle.c_lex.specs.declared.token.Punct.TheVariants as mark
 use Rattle.c_lex.specs.Lexemes.{Rise, kinds}
 use Rattle.c_tree.specs.declared.place.Loc.{Loc}
@@ -22,51 +20,74 @@ use Rattle.c_replace.proofs.Owned.{owned}
 use Rattle.c_replace.proofs.Forms as form
 use Rattle.c_replace.proofs.Forms.{VarsIn, bare_vars}
 use Rattle.c_replace.proofs.Shapes as expression
-use Rattle.c_replace.proofs.Declared.{front_join, front_end, owned_length}
+use Rattle.c_replace.proofs.Declared.{prefix_join, prefix_end, owned_length}
 use Rattle.c_replace.proofs.Holes.{Edited, Before, rise_split, found_alone, carry, carry_last, two_last}
-use Rattle.c_replace.proofs.EditedExpressions.{Alone, further, begin, side, owned_as, sides}
+use Rattle.c_replace.proofs.EditedExpressions.{Alone, further, begin, side, owned_as, edited_tree}
 
 module _ (l : Loc) where
   -- ---- declarations
 
-  pub record Changed {X : Type 0} (R : ℕ → Tokens → Tokens → X → Type 0) (bare : X → X) (to : Rewrite → X → X) (a b : Tokens) (x : X) (locs : List Located) : Type 0 where
+  -- the own tokens of a part, which holds the location, or stays what it is
+  pub record EditedPart {X : Type 0} (R : ℕ → Tokens → Tokens → X → Type 0) (bare : X → X)
+      (to : Rewrite → X → X) (a b : Tokens) (x : X) (locs : List Located) : Type 0 where
     pub own : Tokens
     pub splits : a ≡ own ++ b
-    pub edited : (lo hi : ℕ) → Rise lo hi own → Edited l (Before l) (λ ks how. Formed R bare ks (bare (to how x))) locs own
+    pub edited : (lo hi : ℕ) → Rise lo hi own
+        → Edited l (Before l) (λ ks how. Formed R bare ks (bare (to how x))) locs own
 
-  pub elements : {r : ℕ} {a b : Tokens} {ts : List Tree} → Elements r a b ts → Changed Elements (map bare) (λ how ts. map (to_tree l how) ts) a b ts (flat_map in_tree ts)
+  -- the elements of an initialiser list
+  pub elements : {r : ℕ} {a b : Tokens} {ts : List Tree} → Elements r a b ts
+      → EditedPart Elements (map bare) (λ how ts. map (to_tree l how) ts) a b ts (flat_map in_tree ts)
   elements (Elements.last {t = t} d) =
-      let o = sides l d in
-      record { own = o.own; splits = o.splits; edited = λ lo hi r. carry_last [] refl (λ q h. h) (found_alone l (in_tree t)) (λ ks how x. form.elements_last x) (o.edited lo hi r) }
+      let o = edited_tree l d in
+      record {
+        own = o.own;
+        splits = o.splits;
+        edited = λ lo hi r. carry_last [] refl (λ q h. h) (found_alone l (in_tree t))
+            (λ ks how x. form.elements_last x) (o.edited lo hi r);
+      }
   elements (Elements.last_comma {b = b} {t = t} {s = s} d) =
-      let o = sides l d in
+      let o = edited_tree l d in
       record {
         own = o.own ++ (kind.Punct mark.Comma, s) ∷ [];
-        splits = front_end b o.own (kind.Punct mark.Comma) s o.splits;
+        splits = prefix_end b o.own (kind.Punct mark.Comma) s o.splits;
         edited = λ lo hi r.
             let at = rise_split o.own ((kind.Punct mark.Comma, s) ∷ []) lo hi r in
-            carry [] ((kind.Punct mark.Comma, s) ∷ []) refl (λ q h. h) (found_alone l (in_tree t)) (λ ks how x. form.elements_last_comma x) (o.edited lo at.0 at.1);
+            carry [] ((kind.Punct mark.Comma, s) ∷ []) refl (λ q h. h) (found_alone l (in_tree t))
+            (λ ks how x. form.elements_last_comma x) (o.edited lo at.0 at.1);
       }
   elements (Elements.more {c = c} {t = t} {ts = ts} {s = s} d e) =
-      let o = sides l d in
+      let o = edited_tree l d in
       let p = elements e in
       record {
         own = o.own ++ (kind.Punct mark.Comma, s) ∷ p.own;
-        splits = front_join c o.own ((kind.Punct mark.Comma, s) ∷ p.own) o.splits (ap (λ q. (kind.Punct mark.Comma, s) ∷ q) p.splits);
+        splits = prefix_join c o.own ((kind.Punct mark.Comma, s) ∷ p.own) o.splits
+            (ap (λ q. (kind.Punct mark.Comma, s) ∷ q) p.splits);
         edited = λ lo hi r.
             let at = rise_split o.own ((kind.Punct mark.Comma, s) ∷ p.own) lo hi r in
-            two_last [] o.own ((kind.Punct mark.Comma, s) ∷ []) p.own (o.own ++ (kind.Punct mark.Comma, s) ∷ p.own) refl (λ q h. h) (further l (o.own ++ (kind.Punct mark.Comma, s) ∷ [])) (λ ks js how x y. form.elements_more x y)
+            two_last [] o.own ((kind.Punct mark.Comma, s) ∷ []) p.own
+            (o.own ++ (kind.Punct mark.Comma, s) ∷ p.own) refl (λ q h. h)
+            (further l (o.own ++ (kind.Punct mark.Comma, s) ∷ []))
+            (λ ks js how x y. form.elements_more x y)
             refl lo hi r (o.edited lo at.0 at.1) (p.edited s.to hi at.2.2);
       }
 
-  pub declarator : {r : ℕ} {a b : Tokens} {v : Variable} → Declarator r a b v → Changed Declarator bare_variable (λ how v. to_variable l how v) a b v (in_initial v.start)
-  declarator (Declarator.scalar {w = w} {s = s}) = record { own = (kind.Name w, s) ∷ []; splits = refl; edited = λ lo hi r. Edited.kept refl (λ how. form.scalar w) }
+  -- a declared variable
+  pub declarator : {r : ℕ} {a b : Tokens} {v : Variable} → Declarator r a b v
+      → EditedPart Declarator bare_variable (λ how v. to_variable l how v) a b v (in_initial v.start)
+  declarator (Declarator.scalar {w = w} {s = s}) = record {
+    own = (kind.Name w, s) ∷ [];
+    splits = refl;
+    edited = λ lo hi r. Edited.kept refl (λ how. form.scalar w);
+  }
   declarator (Declarator.scalar_start {w = w} {s = s} {o = p} {t = t} d) =
-      let o = sides l d in
+      let o = edited_tree l d in
       record {
         own = (kind.Name w, s) ∷ (kind.Punct mark.Assign, p) ∷ o.own;
         splits = ap (λ q. (kind.Name w, s) ∷ (kind.Punct mark.Assign, p) ∷ q) o.splits;
-        edited = λ lo hi r. carry_last ((kind.Name w, s) ∷ (kind.Punct mark.Assign, p) ∷ []) refl (begin l ((kind.Name w, s) ∷ (kind.Punct mark.Assign, p) ∷ []) refl) refl (λ ks how x. form.scalar_start w x)
+        edited = λ lo hi r. carry_last ((kind.Name w, s) ∷ (kind.Punct mark.Assign, p) ∷ []) refl
+            (begin l ((kind.Name w, s) ∷ (kind.Punct mark.Assign, p) ∷ []) refl) refl
+            (λ ks how x. form.scalar_start w x)
             (side l (owned d) o (λ ks u x. x) (λ ks u x. expression.expression x) p.to hi r.2.2);
       }
   declarator (Declarator.array {w = w} {s = s} d) =
@@ -76,7 +97,8 @@ module _ (l : Loc) where
         splits = ap (λ q. (kind.Name w, s) ∷ q) o.splits;
         edited = λ lo hi r. Edited.kept refl (λ how. form.array w o.formed);
       }
-  declarator (Declarator.array_list {c = c} {w = w} {s = s} {e = n} {o = i} {p = j} {q = k} {n = size} {ts = ts} d e) =
+  declarator (Declarator.array_list {c = c} {w = w} {s = s} {e = n} {o = i} {p = j} {q = k} {n =
+      size} {ts = ts} d e) =
       let o = owned_length d in
       let p = elements e in
       let middle : Tokens = (kind.Punct mark.Assign, i) ∷ (kind.Punct mark.OpenBrace, j) ∷ [] in
@@ -84,92 +106,154 @@ module _ (l : Loc) where
       let start : Tokens = (kind.Name w, s) ∷ (o.own ++ middle) in
       record {
         own = start ++ (p.own ++ end);
-        splits = ap (λ q. (kind.Name w, s) ∷ q) (front_join c (o.own ++ middle) (p.own ++ end) (front_join _ o.own middle o.splits refl) (front_join c p.own end p.splits refl));
+        splits = ap (λ q. (kind.Name w, s) ∷ q) (prefix_join c (o.own ++ middle) (p.own ++ end)
+            (prefix_join _ o.own middle o.splits refl) (prefix_join c p.own end p.splits refl));
         edited = λ lo hi r.
             let first = rise_split start (p.own ++ end) lo hi r in
             let second = rise_split p.own end first.0 hi first.2 in
             carry start end refl (further l start) refl (λ ks how x.
-            let same : kinds (o.own ++ middle) ++ (ks ++ kind.Punct mark.CloseBrace ∷ []) ≡ kinds o.own ++ kind.Punct mark.Assign ∷ kind.Punct mark.OpenBrace ∷ (ks ++ kind.Punct mark.CloseBrace ∷ []) =
-            ap (λ y. y ++ (ks ++ kind.Punct mark.CloseBrace ∷ [])) (kinds_append o.own middle) ∙ append_assoc (kinds o.own) (kinds middle) (ks ++ kind.Punct mark.CloseBrace ∷ []) in
-            subst (λ y. Formed Declarator bare_variable (kind.Name w ∷ y) (bare_variable (to_variable l how (variable w (over s n) (Array size) (tree.list_start ts))))) (sym same) (form.array_list w o.formed x)) (p.edited first.0 second.0 second.1);
+            let same : kinds (o.own ++ middle) ++ (ks ++ kind.Punct mark.CloseBrace ∷ [])
+            ≡ kinds o.own ++ kind.Punct mark.Assign ∷ kind.Punct mark.OpenBrace ∷
+            (ks ++ kind.Punct mark.CloseBrace ∷ []) =
+            ap (λ y. y ++ (ks ++ kind.Punct mark.CloseBrace ∷ [])) (kinds_append o.own middle)
+            ∙ append_assoc (kinds o.own) (kinds middle) (ks ++ kind.Punct mark.CloseBrace ∷ []) in
+            subst (λ y. Formed Declarator bare_variable (kind.Name w ∷ y)
+            (bare_variable
+            (to_variable l how (variable w (over s n) (Array size) (tree.list_start ts)))))
+            (sym same) (form.array_list w o.formed x)) (p.edited first.0 second.0 second.1);
       }
 
-  pub declarators : {r : ℕ} {a b : Tokens} {vs : List Variable} → Declarators r a b vs → Changed Declarators (map bare_variable) (λ how vs. map (to_variable l how) vs) a b vs (in_variables vs)
+  -- declared variables
+  pub declarators : {r : ℕ} {a b : Tokens} {vs : List Variable} → Declarators r a b vs
+      → EditedPart Declarators (map bare_variable) (λ how vs. map (to_variable l how) vs) a b vs
+      (in_variables vs)
   declarators (Declarators.last {v = v} d) =
       let o = declarator d in
-      record { own = o.own; splits = o.splits; edited = λ lo hi r. carry_last [] refl (λ q h. h) (found_alone l (in_initial v.start)) (λ ks how x. form.declarators_last x) (o.edited lo hi r) }
+      record {
+        own = o.own;
+        splits = o.splits;
+        edited = λ lo hi r. carry_last [] refl (λ q h. h) (found_alone l (in_initial v.start))
+            (λ ks how x. form.declarators_last x) (o.edited lo hi r);
+      }
   declarators (Declarators.more {c = c} {v = v} {vs = vs} {s = s} d e) =
       let o = declarator d in
       let p = declarators e in
       record {
         own = o.own ++ (kind.Punct mark.Comma, s) ∷ p.own;
-        splits = front_join c o.own ((kind.Punct mark.Comma, s) ∷ p.own) o.splits (ap (λ q. (kind.Punct mark.Comma, s) ∷ q) p.splits);
+        splits = prefix_join c o.own ((kind.Punct mark.Comma, s) ∷ p.own) o.splits
+            (ap (λ q. (kind.Punct mark.Comma, s) ∷ q) p.splits);
         edited = λ lo hi r.
             let at = rise_split o.own ((kind.Punct mark.Comma, s) ∷ p.own) lo hi r in
-            two_last [] o.own ((kind.Punct mark.Comma, s) ∷ []) p.own (o.own ++ (kind.Punct mark.Comma, s) ∷ p.own) refl (λ q h. h) (further l (o.own ++ (kind.Punct mark.Comma, s) ∷ [])) (λ ks js how x y. form.declarators_more x y)
+            two_last [] o.own ((kind.Punct mark.Comma, s) ∷ []) p.own
+            (o.own ++ (kind.Punct mark.Comma, s) ∷ p.own) refl (λ q h. h)
+            (further l (o.own ++ (kind.Punct mark.Comma, s) ∷ []))
+            (λ ks js how x y. form.declarators_more x y)
             refl lo hi r (o.edited lo at.0 at.1) (p.edited s.to hi at.2.2);
       }
 
-  pub record OwnVars (a b : Tokens) (ty : Ty) (vs : List Variable) : Type 0 where
+  -- the own tokens of a declaration, of which the last is `;`
+  pub record EditedVars (a b : Tokens) (ty : Ty) (vs : List Variable) : Type 0 where
     pub own : Tokens
     pub splits : a ≡ own ++ b
     pub settled : is_settled own ≡ true
-    pub edited : (lo hi : ℕ) → Rise lo hi own → Edited l (Before l) (λ ks how. Formed VarsIn bare_vars ks (bare_vars (ty, map (to_variable l how) vs))) (in_variables vs) own
+    pub edited : (lo hi : ℕ) → Rise lo hi own
+        → Edited l (Before l) (λ ks how. Formed VarsIn bare_vars ks
+        (bare_vars (ty, map (to_variable l how) vs))) (in_variables vs) own
 
-  pub declaration : {r : ℕ} {a b : Tokens} {ty : Ty} {vs : List Variable} → Vars r a b ty vs → OwnVars a b ty vs
+  -- a declaration
+  pub declaration : {r : ℕ} {a b : Tokens} {ty : Ty} {vs : List Variable} → Vars r a b ty vs
+      → EditedVars a b ty vs
   declaration (Vars.vars {b = b} {k = k} {s = s} {e = e} {ty = ty} f d) =
       let o = declarators d in
       record {
         own = (kind.Word k, s) ∷ (o.own ++ (kind.Punct mark.Semicolon, e) ∷ []);
-        splits = ap (λ q. (kind.Word k, s) ∷ q) (front_end b o.own (kind.Punct mark.Semicolon) e o.splits);
+        splits = ap (λ q. (kind.Word k, s) ∷ q) (prefix_end b o.own
+            (kind.Punct mark.Semicolon) e o.splits);
         settled = settled_append ((kind.Word k, s) ∷ o.own) ((kind.Punct mark.Semicolon, e) ∷ []) refl;
         edited = λ lo hi r.
             let at = rise_split o.own ((kind.Punct mark.Semicolon, e) ∷ []) s.to hi r.2 in
-            carry ((kind.Word k, s) ∷ []) ((kind.Punct mark.Semicolon, e) ∷ []) refl (further l ((kind.Word k, s) ∷ [])) refl (λ ks how x. form.vars k ty f x) (o.edited s.to at.0 at.1);
+            carry ((kind.Word k, s) ∷ []) ((kind.Punct mark.Semicolon, e) ∷ []) refl
+            (further l ((kind.Word k, s) ∷ [])) refl (λ ks how x. form.vars k ty f x)
+            (o.edited s.to at.0 at.1);
       }
 
-  pub record OwnFirst (a b : Tokens) (i : First) : Type 0 where
+  -- the own tokens of the first clause of a `for`, of which the last is `;`
+  pub record EditedFirst (a b : Tokens) (i : First) : Type 0 where
     pub own : Tokens
     pub splits : a ≡ own ++ b
     pub settled : is_settled own ≡ true
-    pub edited : (lo hi : ℕ) → Rise lo hi own → Edited l (Before l) (λ ks how. Formed Clause bare_first ks (bare_first (to_first l how i))) (in_first i) own
+    pub edited : (lo hi : ℕ) → Rise lo hi own
+        → Edited l (Before l) (λ ks how. Formed Clause bare_first ks (bare_first (to_first l how i)))
+        (in_first i) own
 
-  pub first_clause : {r : ℕ} {a b : Tokens} {i : First} → Clause r a b i → OwnFirst a b i
-  first_clause (Clause.empty {e = e}) = record { own = (kind.Punct mark.Semicolon, e) ∷ []; splits = refl; settled = refl; edited = λ lo hi r. Edited.kept refl (λ how. form.clause_empty) }
+  -- the first clause of a `for`
+  pub first_clause : {r : ℕ} {a b : Tokens} {i : First} → Clause r a b i → EditedFirst a b i
+  first_clause (Clause.empty {e = e}) = record {
+    own = (kind.Punct mark.Semicolon, e) ∷ [];
+    splits = refl;
+    settled = refl;
+    edited = λ lo hi r. Edited.kept refl (λ how. form.clause_empty);
+  }
   first_clause (Clause.act {b = b} {e = e} d) =
-      let o = sides l d in
+      let o = edited_tree l d in
       record {
         own = o.own ++ (kind.Punct mark.Semicolon, e) ∷ [];
-        splits = front_end b o.own (kind.Punct mark.Semicolon) e o.splits;
+        splits = prefix_end b o.own (kind.Punct mark.Semicolon) e o.splits;
         settled = settled_append o.own ((kind.Punct mark.Semicolon, e) ∷ []) refl;
         edited = λ lo hi r.
             let at = rise_split o.own ((kind.Punct mark.Semicolon, e) ∷ []) lo hi r in
-            carry [] ((kind.Punct mark.Semicolon, e) ∷ []) refl (λ q h. h) refl (λ ks how x. form.clause_act x) (o.edited lo at.0 at.1);
+            carry [] ((kind.Punct mark.Semicolon, e) ∷ []) refl (λ q h. h) refl
+            (λ ks how x. form.clause_act x) (o.edited lo at.0 at.1);
       }
   first_clause (Clause.vars d) =
       let o = declaration d in
-      record { own = o.own; splits = o.splits; settled = o.settled; edited = λ lo hi r. carry_last [] refl (λ q h. h) refl (λ ks how x. form.clause_vars x) (o.edited lo hi r) }
+      record {
+        own = o.own;
+        splits = o.splits;
+        settled = o.settled;
+        edited = λ lo hi r. carry_last [] refl (λ q h. h) refl (λ ks how x. form.clause_vars x)
+            (o.edited lo hi r);
+      }
 
   -- the step of a `for`
-  pub step : {r : ℕ} {a b : Tokens} {t : Option Tree} → Optional r a b t → Changed Optional bare_option (λ how t. to_step l how t) a b t (in_step t)
-  step Optional.absent = record { own = []; splits = refl; edited = λ lo hi r. Edited.kept refl (λ how. form.absent) }
-  step (Optional.present d) = let o = sides l d in record { own = o.own; splits = o.splits; edited = λ lo hi r. carry_last [] refl (λ q h. h) refl (λ ks how x. form.present x) (o.edited lo hi r) }
+  pub step : {r : ℕ} {a b : Tokens} {t : Option Tree} → Optional r a b t
+      → EditedPart Optional bare_option (λ how t. to_step l how t) a b t (in_step t)
+  step Optional.absent = record {
+    own = [];
+    splits = refl;
+    edited = λ lo hi r. Edited.kept refl (λ how. form.absent);
+  }
+  step (Optional.present d) = let o = edited_tree l d in record {
+    own = o.own;
+    splits = o.splits;
+    edited = λ lo hi r. carry_last [] refl (λ q h. h) refl (λ ks how x. form.present x)
+        (o.edited lo hi r);
+  }
 
-  -- the value of a `return`
-  pub record OwnValue (a b : Tokens) (t : Option Tree) : Type 0 where
+  -- the own tokens of the value of a `return`
+  pub record EditedValue (a b : Tokens) (t : Option Tree) : Type 0 where
     pub own : Tokens
     pub splits : a ≡ own ++ b
     pub formed : Formed Optional bare_option (kinds own) (bare_option t)
-    pub edited : (lo hi : ℕ) → Rise lo hi own → Edited l (Alone l) (λ ks how. Formed Optional bare_option ks (bare_option (to_value l how t))) (in_value t) own
+    pub edited : (lo hi : ℕ) → Rise lo hi own
+        → Edited l (Alone l) (λ ks how. Formed Optional bare_option ks (bare_option (to_value l how t)))
+        (in_value t) own
 
-  pub returned : {r : ℕ} {a b : Tokens} {t : Option Tree} → Optional r a b t → OwnValue a b t
-  returned Optional.absent = record { own = []; splits = refl; formed = form.absent; edited = λ lo hi r. Edited.kept refl (λ how. form.absent) }
+  -- the value of a `return`
+  pub returned : {r : ℕ} {a b : Tokens} {t : Option Tree} → Optional r a b t → EditedValue a b t
+  returned Optional.absent = record {
+    own = [];
+    splits = refl;
+    formed = form.absent;
+    edited = λ lo hi r. Edited.kept refl (λ how. form.absent);
+  }
   returned (Optional.present d) =
-      let o = sides l d in
+      let o = edited_tree l d in
       let w = owned d in
       record {
         own = o.own;
         splits = o.splits;
         formed = form.present (owned_as l w o).0;
-        edited = λ lo hi r. carry_last [] refl (λ q h. h) refl (λ ks how x. form.present x) (side l w o (λ ks u x. expression.expression x) (λ ks u x. x) lo hi r);
+        edited = λ lo hi r. carry_last [] refl (λ q h. h) refl (λ ks how x. form.present x)
+            (side l w o (λ ks u x. expression.expression x) (λ ks u x. x) lo hi r);
       }

@@ -1,4 +1,5 @@
--- What is read as an expression has tokens of its own, and all tokens of their kinds are the same expression.
+-- What is read as an expression has tokens of its own, and all tokens of their kinds are the same
+-- expression.
 use Rattle.std.proofs.Common.{◌≡◌, ℕ, Bool, true, false, List, [], ◌∷◌, ◌++◌, Some, refl, sym, ap, ◌∙◌, subst, append_assoc}
 use Rattle.c_lex.specs.declared.token.TokenKind.{TokenKind}
 use Rattle.c_lex.specs.declared.token.TokenKind.TheVariants as kind

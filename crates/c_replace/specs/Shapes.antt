@@ -1,4 +1,5 @@
--- Expressions by the kinds of their tokens alone: all tokens of some kinds are the same expression, but for spans.
+-- Expressions by the kinds of their tokens alone: all tokens of some kinds are the same expression, but
+-- for spans.
 use Rattle.std.specs.Prelude.{◌≡◌, ℕ, ◌+◌, ◌≤◌, Bool, true, false, List, [], ◌∷◌, ◌++◌}
 use Rattle.c_lex.specs.declared.token.Punct.{Punct as Mark}
 use Rattle.c_lex.specs.declared.token.Punct.TheVariants.{Question}
@@ -11,13 +12,15 @@ use Rattle.c_tree.specs.Tree.{Tree, Args, bare, bare_args}
 use Rattle.c_grammar.specs.declared.part.Part.{Part}
 use Rattle.c_grammar.specs.Grammar.{Tokens, Given, by_value, by_format, by_address, args, Reads, Argument, Arguments}
 
--- Where there is room, these tokens are an expression of the kind N, whatever follows them. It is t but for spans, slots and the
+-- Where there is room, these tokens are an expression of the kind N, whatever follows them. It is t but
+-- for spans, slots and the
 -- spelling of constants. No more room is taken than is needed.
 pub record Spells (N : Part) (own : Tokens) (t : Tree) : Type 0 where
   pub need : ℕ
   pub found : Tree
   pub is_bare : bare found ≡ t
-  pub reads : (r : ℕ) → need ≤ r → (z : Tokens) → (m : ℕ) × (r ≤ m + need) × Reads N r (own ++ z) m z found
+  pub reads : (r : ℕ) → need ≤ r → (z : Tokens) → (m : ℕ) × (r ≤ m + need)
+      × Reads N r (own ++ z) m z found
 
 -- all tokens of these kinds are the expression t of the kind N
 pub record Shaped (N : Part) (ks : List TokenKind) (t : Tree) : Type 0 where
@@ -73,7 +76,8 @@ is_whole tree.hole = false
 is_whole (tree.hole_after t) = false
 is_whole _ = true
 
--- The tokens from a down to b are the expression's own: they cover its text, the last is no `?`, and all tokens of their kinds
+-- The tokens from a down to b are the expression's own: they cover its text, the last is no `?`, and
+-- all tokens of their kinds
 -- are the same expression.
 pub record Own (N : Part) (a b : Tokens) (t : Tree) : Type 0 where
   pub own : Tokens
@@ -82,3 +86,8 @@ pub record Own (N : Part) (a b : Tokens) (t : Tree) : Type 0 where
   pub covers : Covers own (span_of t)
   pub settled : is_settled own ≡ true
   pub whole : is_whole t ≡ true
+
+-- What is read as an expression has tokens of its own, and all tokens of their kinds are the same
+-- expression.
+abbrev pub ExpressionsByKinds : Type 0
+ExpressionsByKinds = (N : Part) (r m : ℕ) (a b : Tokens) (t : Tree) → Reads N r a m b t → Own N a b t

@@ -1,5 +1,0 @@
-use Rattle.c_replace.proofs.Owned.{owned}
-use Rattle.c_replace.proofs.laws.read_by_kinds.Goals as goal
-
-pub returns : goal.returns
-returns c = record { each = λ N r m a b t d. owned d }
