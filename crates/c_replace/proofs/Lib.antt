@@ -1,0 +1,12 @@
+pub mod Splits
+pub mod Shapes
+pub mod Owned
+pub mod Forms
+pub mod Declared
+pub mod Statements
+pub mod LocationKinds
+pub mod Holes
+pub mod EditedExpressions
+pub mod EditedDeclarations
+pub mod EditedPrograms
+pub mod Replaced

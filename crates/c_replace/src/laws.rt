@@ -1,0 +1,35 @@
+//! Laws of tokens of which some are replaced by others.
+
+ghost use Rattle.c_replace.specs.Shapes.{ExpressionsByKinds};
+ghost use Rattle.c_replace.specs.Replacing.{ProgramsByKinds, EachReplaceable, ChangesReplace};
+
+use c_grammar::text_order;
+use c_location::{each_names_one_place, nothing_elsewhere};
+
+/// An expression has tokens of its own, and all tokens of their kinds are the same expression, wherever they stand.
+pub fn expressions_by_kinds()
+    ensures { ExpressionsByKinds }
+{}
+
+/// All tokens of the kinds of a program's tokens are the same program.
+pub fn programs_by_kinds()
+    ensures { ProgramsByKinds }
+{
+    text_order();
+    each_names_one_place();
+    nothing_elsewhere();
+}
+
+/// At each location of a program, others can stand in the place of its tokens. Where they are what a rewrite makes of
+/// the part that stands there, the tokens are the program rewritten at the location.
+pub fn tokens_replaced()
+    ensures { EachReplaceable }
+{
+    text_order();
+    each_names_one_place();
+}
+
+/// The same by the changes that a patch makes: another condition or right side, and an `if` put round a statement.
+pub fn tokens_changed()
+    ensures { ChangesReplace }
+{}
