@@ -15,5 +15,5 @@ pub use change::Change;
 pub use fault::LocFault;
 pub use laws::{each_names_one_place, locations_rise, nothing_elsewhere};
 pub use list::locations;
-pub use part::{Part, is_at, part_at};
+pub use part::{Part, part_at};
 pub use rewrite::change_at;
