@@ -100,7 +100,8 @@ fn in_list<'a>(args: &'a [Arg], l: &Loc) -> Option<Part<'a>>
 /// The same of an argument.
 #[cycle(in_expr)]
 fn in_arg<'a>(arg: &'a Arg, l: &Loc) -> Option<Part<'a>>
-    ensures { (rest : Args) → found_at l.now (in_args (with_arg arg.now rest)) ≡ option_or (option_map lent result) (found_at l.now (in_args rest)) }
+    ensures { (rest : Args) → found_at l.now (in_args (with_arg arg.now rest))
+        ≡ option_or (option_map lent result) (found_at l.now (in_args rest)) }
 {
     match arg {
         Arg::Value(e) | Arg::Address(e) => in_expr(e, l),
@@ -213,7 +214,8 @@ fn in_head<'a>(
     step: &'a Option<Expr>,
     l: &Loc,
 ) -> Option<Part<'a>>
-    ensures { option_map lent result ≡ found_at l.now (in_first (first init.now) ++ of_test (tree_option test.now) ++ of_step (tree_option step.now)) }
+    ensures { option_map lent result
+        ≡ found_at l.now (in_first (first init.now) ++ of_test (tree_option test.now) ++ of_step (tree_option step.now)) }
 {
     if let Some(found) = in_init(init, l) {
         return Some(found);
@@ -311,7 +313,8 @@ fn in_items<'a>(items: &'a [Item], l: &Loc) -> Option<Part<'a>>
 /// The same of an item.
 #[cycle(in_stmt)]
 fn in_item<'a>(item: &'a Item, l: &Loc) -> Option<Part<'a>>
-    ensures { (rest : Body) → found_at l.now (in_body (with_item item.now rest)) ≡ option_or (option_map lent result) (found_at l.now (in_body rest)) }
+    ensures { (rest : Body) → found_at l.now (in_body (with_item item.now rest))
+        ≡ option_or (option_map lent result) (found_at l.now (in_body rest)) }
 {
     match item {
         Item::Vars(_, declarators) => in_declarators(declarators, l),

@@ -116,7 +116,8 @@ fn change_assigned(
     l: &Loc,
     change: &Change,
 ) -> Result<(), NoMemory>
-    ensures { OnOk result (tree value.new ≡ at_assigned l.now (rewrite_of change.now) op (tree value.old) (to_tree l.now (rewrite_of change.now) (tree value.old))) }
+    ensures { OnOk result (tree value.new ≡ at_assigned l.now (rewrite_of change.now) op (tree value.old)
+        (to_tree l.now (rewrite_of change.now) (tree value.old))) }
 {
     match op {
         None => change_here(alloc, value, LocKind::Right, l, change),
@@ -133,7 +134,8 @@ fn change_here(
     l: &Loc,
     change: &Change,
 ) -> Result<(), NoMemory>
-    ensures { OnOk result (tree e.new ≡ at_tree l.now (rewrite_of change.now) kind (tree e.old) (to_tree l.now (rewrite_of change.now) (tree e.old))) }
+    ensures { OnOk result (tree e.new ≡ at_tree l.now (rewrite_of change.now) kind (tree e.old)
+        (to_tree l.now (rewrite_of change.now) (tree e.old))) }
 {
     if is_at(l, kind, e.span) {
         return change_part(alloc, e, change);
@@ -155,7 +157,8 @@ fn change_args(alloc: Global, args: &mut [Arg], l: &Loc, change: &Change) -> Res
 /// Changes an argument.
 #[cycle(change_expr)]
 fn change_arg(alloc: Global, arg: &mut Arg, l: &Loc, change: &Change) -> Result<(), NoMemory>
-    ensures { OnOk result ((rest : Args) → with_arg arg.new (to_args l.now (rewrite_of change.now) rest) ≡ to_args l.now (rewrite_of change.now) (with_arg arg.old rest)) }
+    ensures { OnOk result ((rest : Args) → with_arg arg.new (to_args l.now (rewrite_of change.now) rest)
+        ≡ to_args l.now (rewrite_of change.now) (with_arg arg.old rest)) }
 {
     match arg {
         Arg::Value(e) => change_expr(alloc, e, l, change),
@@ -417,7 +420,8 @@ fn change_items(alloc: Global, items: &mut [Item], l: &Loc, change: &Change) -> 
 /// Changes an item.
 #[cycle(change_stmt)]
 fn change_item(alloc: Global, item: &mut Item, l: &Loc, change: &Change) -> Result<(), NoMemory>
-    ensures { OnOk result ((rest : Body) → with_item item.new (to_body l.now (rewrite_of change.now) rest) ≡ to_body l.now (rewrite_of change.now) (with_item item.old rest)) }
+    ensures { OnOk result ((rest : Body) → with_item item.new (to_body l.now (rewrite_of change.now) rest)
+        ≡ to_body l.now (rewrite_of change.now) (with_item item.old rest)) }
 {
     match item {
         Item::Vars(_, declarators) => change_declarators(alloc, declarators, l, change),

@@ -14,5 +14,5 @@ change (Widened bound) = widened (tree bound)
 change (Guarded test) = guarded (tree test)
 
 -- the location and the change, if there are any
-abbrev pub change_there : Option (Loc × Made) → Option (Loc × Change)
-change_there = option_map (λ c. (c.0, change c.1))
+abbrev pub located_change : Option (Loc × Made) → Option (Loc × Change)
+located_change = option_map (λ c. (c.0, change c.1))

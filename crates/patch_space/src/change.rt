@@ -4,7 +4,7 @@ ghost use Rattle.std.specs.Prelude.{◌≡◌, ◌<◌, length, slice_get, Some,
 ghost use Rattle.c_location.specs.Shown.{lent};
 ghost use Rattle.c_tree.specs.Views.{program as tree_program};
 ghost use Rattle.c_types.specs.Shown.{tree_of};
-ghost use Rattle.patch_space.specs.Shown.{change, change_there as shown};
+ghost use Rattle.patch_space.specs.Shown.{change, located_change as shown};
 ghost use Rattle.patch_space.specs.Space.{change_of as change_by, changed_at as change_at_location, changed as change_of_patch, with_change as changed_program, applied};
 
 use crate::patch::Patch;
@@ -110,7 +110,8 @@ pub fn changed(
     i: u32,
 ) -> Result<Option<(Loc, Change)>, NoMemory>
     requires { i < length space.now.patches }
-    ensures { IfOk result (λ r. option_map (change_of_patch (tree_of program.now) space.now.locations) (slice_get space.now.patches i) ≡ Some (shown r)) }
+    ensures { IfOk result (λ r.
+        option_map (change_of_patch (tree_of program.now) space.now.locations) (slice_get space.now.patches i) ≡ Some (shown r)) }
 {
     let patch = space.patch(i);
     changed_by(alloc, program.program(), space.all_locations(), patch)
@@ -123,7 +124,8 @@ pub fn changed(
 /// `NoMemory` where memory runs out.
 pub fn apply(alloc: Global, program: &Typed, space: &Space, i: u32) -> Result<Typed, NoMemory>
     requires { i < length space.now.patches }
-    ensures { IfOk result (λ r. option_map (applied (tree_of program.now) space.now.locations) (slice_get space.now.patches i) ≡ Some (tree_of r)) }
+    ensures { IfOk result (λ r.
+        option_map (applied (tree_of program.now) space.now.locations) (slice_get space.now.patches i) ≡ Some (tree_of r)) }
 {
     let patch = space.patch(i);
     let patched = apply_patch(alloc, program.program(), space.all_locations(), patch)?;

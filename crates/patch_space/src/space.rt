@@ -140,7 +140,8 @@ fn edits_there(
     location: &Loc,
     cost: u8,
 ) -> Result<Vec<Edit>, NoMemory>
-    ensures { IfOk result (λ edits. edits.items ≡ edits_of_location cost location.now.kind (part location.now (tree_program program.now))) }
+    ensures { IfOk result (λ edits. edits.items
+        ≡ edits_of_location cost location.now.kind (part location.now (tree_program program.now))) }
 {
     match part_at(program, location) {
         None => Ok(Vec::new(alloc)),
@@ -176,7 +177,8 @@ fn add_patches(
 ) -> Result<(), NoMemory>
     requires few { length locations.now ≤ 4096 }
     requires room { length patches.old.items ≤ max }
-    ensures { OnOk result (patches.new.items ≡ take max (patches.old.items ++ patches_from (tree_program program.now) cost 0 locations.now)) }
+    ensures { OnOk result (patches.new.items
+        ≡ take max (patches.old.items ++ patches_from (tree_program program.now) cost 0 locations.now)) }
 {
     for (i, location) in locations.iter().enumerate() {
         let room = max - patches.len();
@@ -198,7 +200,8 @@ fn first_patches(
     max: usize,
 ) -> Result<Vec<Patch>, NoMemory>
     requires { length locations.now ≤ 4096 }
-    ensures { IfOk result (λ r. r.items ≡ take max (flat_map (λ cost. patches_from (tree_program program.now) cost 0 locations.now) costs)) }
+    ensures { IfOk result (λ r. r.items
+        ≡ take max (flat_map (λ cost. patches_from (tree_program program.now) cost 0 locations.now) costs)) }
 {
     let mut patches = Vec::new(alloc);
     for cost in COSTS {
