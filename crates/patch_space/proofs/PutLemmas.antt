@@ -4,7 +4,7 @@ use Rattle.c_tree.specs.declared.place.Span.{Span}
 use Rattle.c_tree.specs.declared.stmt.Item.{Item}
 use Rattle.c_tree.specs.declared.stmt.StmtNode.{StmtNode}
 use Rattle.c_tree.specs.declared.stmt.StmtNode.TheVariants.{Block}
-use Rattle.c_tree.specs.Put.{put_code, put_body}
+use Rattle.schemas.specs.OldPut.{put_code, put_body}
 use Rattle.c_tree.specs.Tree.{Tree, Body, done, block}
 use Rattle.c_tree.specs.Views.{node_code, with_item, body_of}
 use Rattle.c_tree.proofs.ViewsLemmas.{node-Block}

@@ -5,8 +5,8 @@ use Rattle.c_tree.specs.declared.place.Loc.{Loc}
 use Rattle.c_tree.specs.declared.place.LocKind.{LocKind}
 use Rattle.c_tree.specs.declared.place.LocKind.TheVariants.{Cond}
 use Rattle.c_tree.specs.Tree.{Tree, Outer}
-use Rattle.c_tree.specs.Locations.{locations}
-use Rattle.c_tree.specs.Put.{put_cond}
+use Rattle.schemas.specs.OldLocations.{locations}
+use Rattle.schemas.specs.OldPut.{put_cond}
 use Rattle.schemas.specs.declared.edit.Edit.{Edit}
 use Rattle.schemas.specs.Conditions.{cond_at}
 use Rattle.schemas.specs.Edits.{edits_of, edited}

@@ -3,7 +3,7 @@
 ghost use Rattle.std.specs.Prelude.{◌≡◌, map, IfOk};
 ghost use Rattle.c_tree.specs.declared.place.Span.{Span};
 ghost use Rattle.c_tree.specs.Tree.{Body};
-ghost use Rattle.c_tree.specs.Put.{put_here as here, put_option as in_option, put_code, put_body, put_definition, put_outer, put_cond};
+ghost use Rattle.schemas.specs.OldPut.{put_here as here, put_option as in_option, put_code, put_body, put_definition, put_outer, put_cond};
 ghost use Rattle.c_tree.specs.Views.{tree, tree_option, code, node_code, body_of, body_option, with_item, function, outer, program as tree_program};
 
 use crate::copy::{copy_declarators, copy_init, copy_option, copy_params};

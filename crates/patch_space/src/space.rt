@@ -1,7 +1,7 @@
 //! The patches of a program by rank.
 
 ghost use Rattle.std.specs.Prelude.{◌≡◌, ◌↔◌, ◌<◌, ◌≤◌, [], ◌++◌, length, map, slice_get, IsTrue, IfOk, IfErr, OnOk};
-ghost use Rattle.c_tree.specs.Locations.{locations as locations_of};
+ghost use Rattle.schemas.specs.OldLocations.{locations as locations_of};
 ghost use Rattle.c_tree.specs.Views.{program as tree_program};
 ghost use Rattle.c_types.specs.Shown.{tree_of};
 ghost use Rattle.patch_space.specs.Faults.{Causes};

@@ -12,7 +12,7 @@ use Rattle.c_tree.specs.declared.stmt.Stmt.{Stmt}
 use Rattle.c_tree.specs.declared.stmt.StmtNode.{StmtNode}
 use Rattle.c_tree.specs.declared.stmt.StmtNode.TheVariants.{Block}
 use Rattle.c_tree.specs.declared.program.External.{External}
-use Rattle.c_tree.specs.Locations.{span_of}
+use Rattle.c_tree.specs.Parts.{span_of}
 use Rattle.c_tree.specs.Tree.{Tree}
 use Rattle.c_tree.specs.Views.{tree, node_tree, code, node_code, body_of, outer}
 use Rattle.c_tree.proofs.ViewsLemmas.{node-Block}

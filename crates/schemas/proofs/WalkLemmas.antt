@@ -11,7 +11,7 @@ use Rattle.c_tree.specs.declared.stmt.Stmt.{Stmt}
 use Rattle.c_tree.specs.declared.stmt.StmtNode.{StmtNode}
 use Rattle.c_tree.specs.declared.stmt.StmtNode.TheVariants.{Block}
 use Rattle.c_tree.specs.Views.{tree, node_tree, args_of, code, node_code, body_of}
-use Rattle.c_tree.specs.Locations.{in_tree, in_args, in_code, in_body}
+use Rattle.schemas.specs.OldLocations.{in_tree, in_args, in_code, in_body}
 use Rattle.c_tree.proofs.ViewsLemmas.{node-Call, node-Block}
 use Rattle.schemas.specs.Tally.{Found, with_all}
 use Rattle.schemas.proofs.TallyLemmas.{with_all-append}

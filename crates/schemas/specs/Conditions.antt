@@ -2,8 +2,8 @@
 use Rattle.std.specs.Prelude.{List, [], ◌∷◌, ◌++◌, Bool, Option, Some, None}
 use Rattle.std.specs.List.{flat_map, find}
 use Rattle.c_tree.specs.declared.place.Span.{Span}
-use Rattle.c_tree.specs.Locations.{span_of}
-use Rattle.c_tree.specs.Put.{same_span}
+use Rattle.c_tree.specs.Parts.{span_of}
+use Rattle.c_tree.specs.Parts.{same_span}
 use Rattle.c_tree.specs.Tree.{Tree, Code, empty, act, block, if_then, if_else, while, do_while, for, give, break, continue, Body, done, next, vars, Outer, outer_vars, outer_func}
 
 -- the condition of a `for`, if it has one

@@ -1,7 +1,7 @@
 //! The list of a program's locations.
 
 ghost use Rattle.std.specs.Prelude.{◌≡◌, ◌≤◌, length, IfOk, IfErr};
-ghost use Rattle.c_tree.specs.Locations.{locations as locations_of};
+ghost use Rattle.schemas.specs.OldLocations.{locations as locations_of};
 ghost use Rattle.c_types.specs.Shown.{tree_of};
 ghost use Rattle.schemas.specs.Faults.{Causes};
 

@@ -5,7 +5,7 @@ ghost use Rattle.std.specs.Prelude.{◌≡◌, ◌∷◌, [], map, OnOk};
 ghost use Rattle.std.specs.List.{flat_map};
 ghost use Rattle.c_tree.specs.Tree.{Args, Body};
 ghost use Rattle.c_tree.specs.Views.{tree, args_of, with_arg, trees, tree_option, initial, variables, first, code, body_of, with_item, outer, program as tree_program};
-ghost use Rattle.c_tree.specs.Locations.{assigned, in_tree, in_args, in_condition, in_right_side, in_test, in_step, in_value, in_initial, in_variables, in_first, in_code, in_body, in_outer, locations};
+ghost use Rattle.schemas.specs.OldLocations.{assigned, in_tree, in_args, in_condition, in_right_side, in_test, in_step, in_value, in_initial, in_variables, in_first, in_code, in_body, in_outer, locations};
 ghost use Rattle.schemas.specs.Tally.{with_all};
 
 use crate::tally::Tally;

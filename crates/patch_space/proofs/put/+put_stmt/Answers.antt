@@ -1,7 +1,7 @@
 use Rattle.std.proofs.Common.{◌≡◌, List, [], ap, ◌∙◌, arith, drop}
 use Rattle.std.proofs.lemmas.Grind.{common_steps}
 use Rattle.c_tree.specs.declared.stmt.Item.{Item}
-use Rattle.c_tree.specs.Put.{put_body}
+use Rattle.schemas.specs.OldPut.{put_body}
 use Rattle.c_tree.specs.Views.{tree, body_of}
 use Rattle.patch_space.proofs.PutLemmas.{items-more, items-all, put-Block}
 use Rattle.patch_space.proofs.put.+put_stmt.Goals as goal

@@ -1,5 +1,5 @@
 use Rattle.std.proofs.Common.{◌≡◌, drop}
-use Rattle.c_tree.specs.Put.{put_body}
+use Rattle.schemas.specs.OldPut.{put_body}
 use Rattle.c_tree.specs.Views.{tree, body_of}
 use Rattle.patch_space.proofs.PutLemmas.{onto}
 use Rattle.patch_space.proofs.put.+put_stmt.Given as goal

@@ -1,5 +1,5 @@
 use Rattle.std.proofs.Common.{◌≡◌, map, take}
-use Rattle.c_tree.specs.Put.{put_cond}
+use Rattle.schemas.specs.OldPut.{put_cond}
 use Rattle.c_tree.specs.Views.{tree, outer}
 use Rattle.patch_space.proofs.put.put_externals.Given as goal
 

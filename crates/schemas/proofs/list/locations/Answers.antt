@@ -1,5 +1,5 @@
 use Rattle.std.proofs.Common.{rules, ◌≡◌, ◌∙◌, arith}
-use Rattle.c_tree.specs.Locations.{locations}
+use Rattle.schemas.specs.OldLocations.{locations}
 use Rattle.c_types.specs.Shown.{tree_of}
 use Rattle.schemas.specs.Tally.{with_all, none_found}
 use Rattle.schemas.proofs.TallyLemmas.{found_kept, found_few, found_count, found_many}

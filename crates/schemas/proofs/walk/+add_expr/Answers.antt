@@ -3,7 +3,7 @@ use Rattle.std.specs.Prelude.{OnOk}
 use Rattle.c_tree.specs.declared.expr.Arg.{Arg}
 use Rattle.c_tree.specs.declared.place.Loc.{Loc}
 use Rattle.c_tree.specs.Views.{args_of}
-use Rattle.c_tree.specs.Locations.{in_args}
+use Rattle.schemas.specs.OldLocations.{in_args}
 use Rattle.schemas.specs.Tally.{with_all}
 use Rattle.schemas.proofs.WalkLemmas.{in_tree-Call}
 use Rattle.schemas.proofs.walk.+add_expr.Goals as goal

@@ -1,6 +1,6 @@
 use Rattle.std.proofs.Common.{◌≡◌, drop}
 use Rattle.c_tree.specs.Views.{args_of}
-use Rattle.c_tree.specs.Locations.{in_args}
+use Rattle.schemas.specs.OldLocations.{in_args}
 use Rattle.schemas.specs.Tally.{with_all}
 use Rattle.schemas.proofs.walk.+add_expr.Given as goal
 

@@ -3,7 +3,7 @@ use Rattle.std.specs.Prelude.{OnOk}
 use Rattle.c_tree.specs.declared.stmt.Item.{Item}
 use Rattle.c_tree.specs.declared.place.Loc.{Loc}
 use Rattle.c_tree.specs.Views.{body_of}
-use Rattle.c_tree.specs.Locations.{in_body}
+use Rattle.schemas.specs.OldLocations.{in_body}
 use Rattle.schemas.specs.Tally.{with_all}
 use Rattle.schemas.proofs.WalkLemmas.{in_code-Block}
 use Rattle.schemas.proofs.walk.+add_stmt.Goals as goal

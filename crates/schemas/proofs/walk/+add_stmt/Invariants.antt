@@ -1,6 +1,6 @@
 use Rattle.std.proofs.Common.{◌≡◌, drop}
 use Rattle.c_tree.specs.Views.{body_of}
-use Rattle.c_tree.specs.Locations.{in_body}
+use Rattle.schemas.specs.OldLocations.{in_body}
 use Rattle.schemas.specs.Tally.{with_all}
 use Rattle.schemas.proofs.walk.+add_stmt.Given as goal
 

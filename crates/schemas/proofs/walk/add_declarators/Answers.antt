@@ -1,7 +1,7 @@
 use Rattle.std.proofs.Common.{arith}
 use Rattle.c_tree.specs.Tree.{Variable}
 use Rattle.c_tree.specs.Views.{variable, variables}
-use Rattle.c_tree.specs.Locations.{in_initial, in_variables}
+use Rattle.schemas.specs.OldLocations.{in_initial, in_variables}
 use Rattle.schemas.specs.Tally.{with_all}
 use Rattle.schemas.proofs.WalkLemmas.{found_more}
 use Rattle.schemas.proofs.walk.add_declarators.Goals as goal

@@ -1,6 +1,6 @@
 use Rattle.std.proofs.Common.{◌≡◌, drop}
 use Rattle.c_tree.specs.Views.{variables}
-use Rattle.c_tree.specs.Locations.{in_variables}
+use Rattle.schemas.specs.OldLocations.{in_variables}
 use Rattle.schemas.specs.Tally.{with_all}
 use Rattle.schemas.proofs.walk.add_declarators.Given as goal
 

@@ -1,7 +1,7 @@
 use Rattle.std.proofs.Common.{arith}
 use Rattle.std.specs.List.{flat_map}
 use Rattle.c_tree.specs.Views.{tree, trees}
-use Rattle.c_tree.specs.Locations.{in_tree}
+use Rattle.schemas.specs.OldLocations.{in_tree}
 use Rattle.schemas.specs.Tally.{with_all}
 use Rattle.schemas.proofs.WalkLemmas.{found_more}
 use Rattle.schemas.proofs.walk.add_exprs.Goals as goal

@@ -1,7 +1,7 @@
 use Rattle.std.proofs.Common.{◌≡◌, drop}
 use Rattle.std.specs.List.{flat_map}
 use Rattle.c_tree.specs.Views.{trees}
-use Rattle.c_tree.specs.Locations.{in_tree}
+use Rattle.schemas.specs.OldLocations.{in_tree}
 use Rattle.schemas.specs.Tally.{with_all}
 use Rattle.schemas.proofs.walk.add_exprs.Given as goal
 

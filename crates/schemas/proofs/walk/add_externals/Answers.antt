@@ -1,6 +1,6 @@
 use Rattle.std.proofs.Common.{arith, map}
 use Rattle.c_tree.specs.Views.{outer}
-use Rattle.c_tree.specs.Locations.{in_outer, locations}
+use Rattle.schemas.specs.OldLocations.{in_outer, locations}
 use Rattle.schemas.specs.Tally.{with_all}
 use Rattle.schemas.proofs.WalkLemmas.{found_more}
 use Rattle.schemas.proofs.walk.add_externals.Goals as goal

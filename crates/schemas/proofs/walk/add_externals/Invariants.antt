@@ -1,6 +1,6 @@
 use Rattle.std.proofs.Common.{◌≡◌, map, drop}
 use Rattle.c_tree.specs.Views.{outer}
-use Rattle.c_tree.specs.Locations.{locations}
+use Rattle.schemas.specs.OldLocations.{locations}
 use Rattle.schemas.specs.Tally.{with_all}
 use Rattle.schemas.proofs.walk.add_externals.Given as goal
 
