@@ -10,3 +10,4 @@ pub mod Openings
 pub mod Directives
 pub mod Tokens
 pub mod DirectiveReading
+pub mod FaultWords

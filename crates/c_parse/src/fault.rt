@@ -1,22 +1,54 @@
 //! Why tokens are no program.
 
+ghost use Rattle.std.specs.Prelude.{◌≡◌};
+ghost use Rattle.c_parse.specs.FaultWords.{fault_place, fault_words};
+
 use c_tree::NoMemory;
 use std::alloc::AllocFailed;
-use thiserror::Error;
+use std::error::Error;
+use std::fmt;
 
 /// Why `parse` has no tree. A place is the first byte of the token that is a fault, or the end of the source.
-#[derive(Clone, Copy, Debug, PartialEq, Eq, Error)]
+#[derive(Clone, Copy, Debug, PartialEq, Eq)]
 pub enum ParseFault {
     /// With this token, or with the end of the tokens, nothing is a program.
-    #[error("unexpected token")]
     Unexpected(u32),
     /// With this token one opener more is open than a program may have.
-    #[error("nested too deep")]
     TooDeep(u32),
     /// The allocator had no memory left.
-    #[error("out of memory")]
     NoMemory,
 }
+
+impl ParseFault {
+    /// The place of the fault; out of memory has none. It takes no memory.
+    pub fn place(&self) -> Option<u32>
+        ensures { result ≡ fault_place self.now }
+    {
+        match *self {
+            ParseFault::Unexpected(place) | ParseFault::TooDeep(place) => Some(place),
+            ParseFault::NoMemory => None,
+        }
+    }
+
+    /// What is wrong at the place, in words. It takes no memory.
+    pub fn words(&self) -> &'static str
+        ensures { result.now ≡ fault_words self.now }
+    {
+        match self {
+            ParseFault::Unexpected(_) => "unexpected token",
+            ParseFault::TooDeep(_) => "nested too deep",
+            ParseFault::NoMemory => "out of memory",
+        }
+    }
+}
+
+impl fmt::Display for ParseFault {
+    fn fmt<W: fmt::Write>(&self, f: &mut fmt::Formatter<W>) -> fmt::Result {
+        f.write_str(self.words())
+    }
+}
+
+impl Error for ParseFault {}
 
 /// Why reading stopped. The cursor stands at the token that is a fault.
 #[derive(Clone, Copy)]
@@ -30,7 +62,6 @@ pub enum Stop {
 }
 
 impl From<NoMemory> for Stop {
-    ghost use Rattle.std.specs.Prelude.{◌≡◌};
     ghost use Rattle.c_parse.specs.declared.fault.Stop.TheVariants.{NoMemory};
 
     ghost from_gives = { λ _ e. e ≡ NoMemory };
@@ -41,7 +72,6 @@ impl From<NoMemory> for Stop {
 }
 
 impl<T: Drop> From<AllocFailed<T>> for Stop {
-    ghost use Rattle.std.specs.Prelude.{◌≡◌};
     ghost use Rattle.c_parse.specs.declared.fault.Stop.TheVariants.{NoMemory};
 
     ghost from_gives = { λ _ e. e ≡ NoMemory };
