@@ -1,16 +1,13 @@
 //! The program `f1x`, which repairs a C program over the tests of a suite.
 #![tactic(auto)]
 
-#[cfg(test)]
-mod tests;
-
 use fx_io::{HostFiles, HostSink};
 use repair_cli::run_alone;
 use std::env;
 use std::process::ExitCode;
 
 fn main(rt: HostRuntime) -> ExitCode {
-    let words = words_behind_name(&rt);
+    let words = words_after_name(&rt);
     let mut files = HostFiles::new(&rt);
     let mut out = HostSink::out(&rt);
     let mut err = HostSink::err(&rt);
@@ -18,8 +15,8 @@ fn main(rt: HostRuntime) -> ExitCode {
     ExitCode::from(status.number())
 }
 
-// The words behind the program's name. Where they can't be had there are none, which is no lawful command line.
-fn words_behind_name(rt: &HostRuntime) -> Vec<String> {
+// The words after the program's name. Where they can't be had there are none, which is no command.
+fn words_after_name(rt: &HostRuntime) -> Vec<String> {
     let mut words = Vec::new(rt.alloc());
     let Ok(all) = env::args(rt) else {
         return words;

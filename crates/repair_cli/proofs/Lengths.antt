@@ -2,46 +2,53 @@
 use Rattle.std.proofs.Common.{◌≡◌, ℕ, ◌≤◌, ◌<◌, ◌+◌, ◌^◌, ◌⊎◌, inl, inr, List, ◌++◌, length, take, not, ◌==◌, sym, ap, subst, arith, length-append}
 use Rattle.std.proofs.lemmas.List.Sums.{count_by-le-length, suffix_len-le-length}
 use Rattle.std.proofs.lemmas.List.{length-take}
-use Rattle.std.specs.Prelude.{codes, decimal, Option, Some, None}
+use Rattle.std.specs.Prelude.{codes, decimal, Option, Some, None, option_map}
 use Rattle.std.proofs.lemmas.Fmt.{length-decimal-le}
-use Rattle.repair_cli.specs.declared.fault.Words.{Words}
-use Rattle.repair_cli.specs.declared.fault.Words.TheVariants.{StrayByte, OpenComment, OpenLiteral, BadConstant, ConstantTooLarge, DirectiveLate, DirectiveUnknown, MacroTwice, Digraph, LineSplice, Trigraph, Unexpected, TooDeep}
-use Rattle.repair_cli.specs.FaultTexts.{fault_text}
-use Rattle.repair_cli.specs.Complete.{OnRead, IsFaultless, longest}
-use Rattle.repair_cli.specs.Faults.{Refuses}
+use Rattle.c_lex.specs.FaultWords as lexer
+use Rattle.c_lex.specs.declared.fault.LexFault.{LexFault}
+use Rattle.c_lex.specs.declared.fault.LexFault.TheVariants as lex
+use Rattle.c_parse.specs.FaultWords as parser
+use Rattle.c_parse.specs.declared.fault.ParseFault.{ParseFault}
+use Rattle.c_parse.specs.declared.fault.ParseFault.TheVariants as parse
+use Rattle.repair_cli.specs.Complete.{OnRead, IsFaultless, longest, longest_of}
+use Rattle.repair_cli.specs.Faults.{Refuses, IsFault, fault_place, fault_words, fault_message}
 use Rattle.repair_cli.specs.Refusal.{status_of, message_of}
 use Rattle.repair_cli.specs.Source.{Source, Cause}
-use Rattle.repair_cli.specs.Words.{names_in}
-use Rattle.repair_cli.specs.Texts.{line_of, column_of, located, faulty, usage, unsupported, too_long, bad_suite, cannot_read, no_memory}
+use Rattle.repair_cli.specs.Words.{Command, repair, command_in}
+use Rattle.repair_cli.specs.Texts.{line_of, column_of, position_of, located, faulty, said_of, usage, bad_suite, cannot_read, no_memory}
+use Rattle.repair_cli.specs.declared.fault.ProgramFault.{ProgramFault}
+use Rattle.repair_cli.specs.declared.fault.ProgramFault.TheVariants.{TooLong, Lex, Parse, Unsupported, NoMemory}
 use Rattle.repair_cli.specs.declared.refusal.Refusal.{Refusal}
 use Rattle.repair_cli.specs.declared.refusal.Refusal.TheVariants as reason
 use Rattle.repair_cli.specs.declared.status.Status.{Status}
 use Rattle.repair_cli.specs.declared.status.Status.TheVariants as status
 
 -- the longest words are those for a late directive
-pub words_within : (words : Words) → length (fault_text words) ≤ 37
-words_within StrayByte = omega arith
-words_within OpenComment = omega arith
-words_within OpenLiteral = omega arith
-words_within BadConstant = omega arith
-words_within ConstantTooLarge = omega arith
-words_within DirectiveLate = omega arith
-words_within DirectiveUnknown = omega arith
-words_within MacroTwice = omega arith
-words_within Digraph = omega arith
-words_within LineSplice = omega arith
-words_within Trigraph = omega arith
-words_within Unexpected = omega arith
-words_within TooDeep = omega arith
+lex_words : (f : LexFault) → length (lexer.words_of f) ≤ 37
+lex_words lex.NoMemory = omega arith
+lex_words f = omega arith
+
+-- no words of the parser are longer
+parse_words : (f : ParseFault) → length (parser.fault_words f) ≤ 37
+parse_words parse.NoMemory = omega arith
+parse_words f = omega arith
+
+-- nor are others
+pub words_within : (f : ProgramFault) → length (fault_words f) ≤ 37
+words_within TooLong = omega arith
+words_within (Lex f) = lex_words f
+words_within (Parse f) = parse_words f
+words_within Unsupported = omega arith
+words_within NoMemory = omega arith
 
 -- a number of 32 bits has ten digits at most
 digits_within : (n : ℕ) → n < 2 ^ 32 → length (decimal n) ≤ 10
 digits_within n small = length-decimal-le 10 n (omega arith) (omega (arith, small)) (omega (arith, small))
 
--- a message is at most 62 bytes longer than the name
-pub located_within : (name : List ℕ) (line column : ℕ) (words : Words) → line < 2 ^ 32 → column < 2 ^ 32 → length (located name line column (fault_text words)) ≤ 62 + length name
-located_within name line column words l c =
-    let text = fault_text words in
+-- a message with a line and a column is at most 62 bytes longer than the name
+located_within : (name : List ℕ) (line column : ℕ) (f : ProgramFault) → line < 2 ^ 32 → column < 2 ^ 32 → length (located name line column (fault_words f)) ≤ 62 + length name
+located_within name line column f l c =
+    let text = fault_words f in
     let one = name ++ codes ":" in
     let two = one ++ decimal line in
     let three = two ++ codes ":" in
@@ -57,10 +64,17 @@ located_within name line column words l c =
       length-append two (codes ":"),
       length-append one (decimal line),
       length-append name (codes ":"),
-      words_within words,
+      words_within f,
       digits_within line l,
       digits_within column c,
     )
+
+-- a message with none is at most 62 bytes longer than the name
+said_within : (name : List ℕ) (f : ProgramFault) → length (said_of name (fault_words f)) ≤ 62 + length name
+said_within name f =
+    let one = name ++ codes ": " in
+    let two = one ++ fault_words f in
+    omega (arith, length-append two (codes "\n"), length-append one (fault_words f), length-append name (codes ": "), words_within f)
 
 -- ---- the messages of a call
 
@@ -70,34 +84,49 @@ line_small bytes place short = let feeds = count_by-le-length (λ b. b == 10) (t
 
 -- so is the column
 column_small : (bytes : List ℕ) (place : ℕ) → length bytes ≤ 65536 → column_of bytes place < 2 ^ 32
-column_small bytes place short = let behind = suffix_len-le-length (λ b. not (b == 10)) (take place bytes) in omega (arith, behind, length-take place bytes, short)
+column_small bytes place short = let since = suffix_len-le-length (λ b. not (b == 10)) (take place bytes) in omega (arith, since, length-take place bytes, short)
+
+-- the message of a fault with words no longer than those is at most 64 bytes longer than the name
+at_within : (name bytes : List ℕ) (at : Option ℕ) (f : ProgramFault) → length bytes ≤ 65536 → length (faulty name (option_map (position_of bytes) at) (fault_words f)) ≤ 64 + length name
+at_within name bytes None f short = let h = said_within name f in omega (arith, h)
+at_within name bytes (Some place) f short =
+    let h = located_within name (line_of bytes place) (column_of bytes place) f (line_small bytes place short) (column_small bytes place short) in omega (arith, h)
+
+-- so is that of the first fault of a source
+fault_within : (name bytes : List ℕ) (f : ProgramFault) → IsFault bytes f → length (fault_message name bytes f) ≤ 64 + length name
+fault_within name bytes _ (IsFault.too_long a) = let h = said_within name TooLong in omega (arith, h)
+fault_within name bytes _ (IsFault.of_text f n s a) = at_within name bytes (lexer.place_of f) (Lex f) s
+fault_within name bytes _ (IsFault.of_tokens f ts n c x) = at_within name bytes (parser.fault_place f) (Parse f) c.short
+fault_within name bytes _ (IsFault.of_tree t r x) = let h = said_within name Unsupported in omega (arith, h)
 
 -- the message of a refused source is at most 64 bytes longer than the name
 refuses_within : (name bytes text : List ℕ) → Refuses name bytes text → length text ≤ 64 + length name
-refuses_within name bytes text (Refuses.too_long a) = omega (arith, length-append name (codes ": too long\n"))
-refuses_within name bytes text (Refuses.faulty place said short f) =
-    let h = located_within name (line_of bytes place) (column_of bytes place) said (line_small bytes place short) (column_small bytes place short) in omega (arith, h)
-refuses_within name bytes text (Refuses.unsupported tree r x) = omega (arith, length-append name (codes ": unsupported\n"))
+refuses_within name bytes text r = let h = fault_within name bytes r.fault r.is_first in omega (arith, h, ap length r.message)
 
 -- a message with no name is no longer than the longest
-least : (names : Option (List ℕ × List ℕ)) → 64 ≤ longest names
+least : (command : Option Command) → 64 ≤ longest_of command
 least None = omega arith
-least (Some names) = omega arith
+least (Some (repair asked)) = omega arith
 
 -- the message that a file can't be read is at most 64 bytes longer than the name
 cannot_read_within : (name text : List ℕ) → text ≡ cannot_read name → length text ≤ 64 + length name
 cannot_read_within name text e =
     omega (arith, ap length e, length-append (codes "f1x: cannot read " ++ name) (codes "\n"), length-append (codes "f1x: cannot read ") name)
 
+-- the message that a suite is refused is at most 64 bytes longer than the name
+bad_suite_within : (name text : List ℕ) → text ≡ bad_suite name → length text ≤ 64 + length name
+bad_suite_within name text e =
+    omega (arith, ap length e, length-append (name ++ codes ": " ++ codes "bad suite") (codes "\n"), length-append (name ++ codes ": ") (codes "bad suite"), length-append name (codes ": "))
+
 -- the message of a cause is no longer than the longest
-pub cause_within : (s : Source) (st : Status) (text : List ℕ) → Cause s st text → length text ≤ longest (names_in s.words)
-cause_within s status.Usage text c = let h = least (names_in s.words) in omega (arith, h, ap length c.1)
-cause_within s status.ReadFault text (names, inl c) = let h = ap longest names.lawful in let i = cannot_read_within names.program text c.1 in omega (arith, h, i)
-cause_within s status.ReadFault text (names, inr c) = let h = ap longest names.lawful in let i = cannot_read_within names.suite text c.2 in omega (arith, h, i)
+pub cause_within : (s : Source) (st : Status) (text : List ℕ) → Cause s st text → length text ≤ longest s
+cause_within s status.Usage text c = let h = least (command_in s.words) in omega (arith, h, ap length c.1)
+cause_within s status.ReadFault text (inl c) = let h = ap longest_of c.valid in let i = cannot_read_within c.asked.program text c.message in omega (arith, h, i)
+cause_within s status.ReadFault text (inr c) = let h = ap longest_of c.valid in let i = cannot_read_within c.asked.suite text c.message in omega (arith, h, i)
 cause_within s status.ProgramRefused text c =
-    let h = ap longest c.0.lawful in let i = refuses_within c.0.program c.1.0 text c.1.2 in omega (arith, h, i)
-cause_within s status.SuiteRefused text c = let h = ap longest c.0.lawful in omega (arith, h, ap length c.3, length-append c.0.suite (codes ": bad suite\n"))
-cause_within s status.NoMemory text c = let h = least (names_in s.words) in omega (arith, h, ap length c)
+    let h = ap longest_of c.valid in let i = refuses_within c.asked.program c.refused.0 text c.refused.2 in omega (arith, h, i)
+cause_within s status.SuiteRefused text c = let h = ap longest_of c.valid in let i = bad_suite_within c.asked.suite text c.message in omega (arith, h, i)
+cause_within s status.NoMemory text c = let h = least (command_in s.words) in omega (arith, h, ap length c)
 cause_within s status.WriteFault text c = absurd c
 cause_within s status.Sound text c = absurd c
 cause_within s status.Nothing text c = absurd c

@@ -1,8 +1,9 @@
 pub mod Accepting
+pub mod Agreeing
+pub mod Commands
 pub mod Lengths
-pub mod OneAnswer
 pub mod Pieces
 pub mod Places
+pub mod Refusing
 pub mod Searching
 pub mod Steps
-pub mod Refusing

@@ -1,64 +1,70 @@
 -- One step of the work after another.
-use Rattle.std.proofs.Common.{◌≡◌, ℕ, ◌≤◌, ◌⊎◌, List, ap, subst, sym, inl, inr, refl}
-use Rattle.std.specs.Prelude.{Some}
+use Rattle.std.proofs.Common.{◌≡◌, ℕ, ◌≤◌, ◌⊎◌, List, ap, subst, sym, inl, inr, refl, arith, ◌∙◌}
+use Rattle.std.specs.Prelude.{Some, Option}
 use Rattle.fx_io.specs.Faults.{Rose}
 use Rattle.fx_io.specs.Held.{Lacks}
 use Rattle.fx_io.proofs.FaultCounts.{Rose-later}
 use Rattle.c_tree.specs.Tree.{Outer}
 use Rattle.c_stdio.specs.declared.test.Test.{Test}
-use Rattle.repair_cli.specs.Words.{names_in}
-use Rattle.repair_cli.specs.Texts.{bad_suite, cannot_read}
+use Rattle.test_suite.specs.Suite.{default_limit}
+use Rattle.repair_job.specs.Job.{Job}
+use Rattle.repair_job.specs.declared.answer.Answer.{Answer}
+use Rattle.repair_job.specs.declared.answer.Answer.TheVariants as answer
+use Rattle.repair_cli.specs.Words.{Asked, repair, command_in}
+use Rattle.repair_cli.specs.Jobs.{IsLimit}
 use Rattle.repair_cli.specs.Ends.{Ends, IsAnswer}
 use Rattle.repair_cli.specs.Parts.{GivesNoProgram, GivesNoSuite, Reports}
-use Rattle.repair_cli.specs.Sinks.{Told}
-use Rattle.repair_cli.specs.Refusal.{status_of, message_of}
-use Rattle.repair_cli.specs.Source.{Held, Source, source, HoldsProgram, HoldsSuite, States, Cause}
-use Rattle.repair_cli.specs.declared.answer.Answer.{Answer}
-use Rattle.repair_cli.specs.declared.answer.Answer.TheVariants as answer
+use Rattle.repair_cli.specs.Sinks.{Seen}
+use Rattle.repair_cli.specs.Source.{Files, File, Source, file_in, Asks, HoldsProgram, HoldsSuite, Cause}
 use Rattle.repair_cli.specs.declared.status.Status.{Status}
 use Rattle.repair_cli.specs.declared.status.Status.TheVariants as status
-use Rattle.repair_cli.specs.declared.refusal.Refusal.{Refusal}
-use Rattle.repair_cli.specs.declared.refusal.Refusal.TheVariants as reason
+use Rattle.repair_cli.proofs.Commands.{limit_in}
 
 -- the program was not had
-gives_cause : (words : List (List ℕ)) (held : Held) (f0 f1 : ℕ) (program suite : List ℕ) (status : Status) (text : List ℕ) → names_in words ≡ Some (program, suite) → GivesNoProgram held program f0 f1 status text
-    → Cause (source words held f0 f1) status text
-gives_cause words held f0 f1 program suite status.ReadFault text lawful why = (record { program = program; suite = suite; lawful = lawful }, inl why)
-gives_cause words held f0 f1 program suite status.ProgramRefused text lawful why = (record { program = program; suite = suite; lawful = lawful }, why)
-gives_cause words held f0 f1 program suite status.NoMemory text lawful why = why
-gives_cause words held f0 f1 program suite _ text lawful why = absurd why
+pub program_fails : (source : Source) (asked : Asked) (s : Status) (text : List ℕ) → Asks source asked → GivesNoProgram (file_in source asked.program) s text → Cause source s text
+program_fails source asked status.ReadFault text valid why = inl (record { asked = asked; valid = valid; unread = why.0; message = why.1 })
+program_fails source asked status.ProgramRefused text valid why = record { asked = asked; valid = valid; refused = why }
+program_fails source asked status.NoMemory text valid why = why
+program_fails source asked _ text valid why = absurd why
 
--- the program was not had
-pub program_fails : (words : List (List ℕ)) (held : Held) (f0 f1 : ℕ) (program suite : List ℕ) (r : Refusal) → names_in words ≡ Some (program, suite)
-    → GivesNoProgram held program f0 f1 (status_of r) (message_of r) → Cause (source words held f0 f1) (status_of r) (message_of r)
-program_fails words held f0 f1 program suite r lawful why = gives_cause words held f0 f1 program suite (status_of r) (message_of r) lawful why
+-- a file by its name, in a part of a call
+abbrev pub file_at : Option Files → List ℕ → ℕ → ℕ → File
+file_at held name faults after = record { name = name; held = held; faults = faults; faults_after = after }
+
+-- a call, by its parts
+abbrev pub source_at : List (List ℕ) → Option Files → ℕ → ℕ → Source
+source_at words held faults after = record { words = words; held = held; faults = faults; faults_after = after }
 
 -- the program was accepted, and the suite was not had
-suite_fails_here : (words : List (List ℕ)) (held : Held) (f0 f1 f2 : ℕ) (program suite : List ℕ) (bytes : List ℕ) (tree : List Outer) (r : Refusal) → names_in words ≡ Some (program, suite) → HoldsProgram held program bytes tree → f0 ≤ f1 → GivesNoSuite held suite f1 f2 r
-    → Cause (source words held f0 f2) (status_of r) (message_of r)
-suite_fails_here words held f0 f1 f2 program suite bytes tree (reason.Read n) lawful holds later why =
-    let rose : (Rose f1 f2 ⊎ Lacks held suite) → Rose f0 f2 ⊎ Lacks held suite = λ x. elim x [ inl r ↦ inl (Rose-later f0 f1 f2 later r) | inr l ↦ inr l ] in
-    (record { program = program; suite = suite; lawful = lawful }, inr ((bytes, tree, holds), rose why.1, ap cannot_read why.0))
-suite_fails_here words held f0 f1 f2 program suite bytes tree (reason.Suite n) lawful holds later why = (record { program = program; suite = suite; lawful = lawful }, (bytes, tree, holds), why.1, ap bad_suite why.0)
-suite_fails_here words held f0 f1 f2 program suite bytes tree reason.Memory lawful holds later why = refl
-suite_fails_here words held f0 f1 f2 program suite bytes tree reason.Usage lawful holds later why = absurd why
-suite_fails_here words held f0 f1 f2 program suite bytes tree (reason.Program n) lawful holds later why = absurd why
-suite_fails_here words held f0 f1 f2 program suite bytes tree (reason.Fault n line column said) lawful holds later why = absurd why
-suite_fails_here words held f0 f1 f2 program suite bytes tree (reason.TooLong n) lawful holds later why = absurd why
-suite_fails_here words held f0 f1 f2 program suite bytes tree reason.Write lawful holds later why = absurd why
+suite_fails_here : (words : List (List ℕ)) (held : Option Files) (f0 f1 f2 : ℕ) (asked : Asked) (bytes : List ℕ) (tree : List Outer) (s : Status) (text : List ℕ)
+    → command_in words ≡ Some (repair asked) → HoldsProgram (file_at held asked.program f0 f1) bytes tree → f0 ≤ f1 → GivesNoSuite (file_at held asked.suite f1 f2) s text
+    → Cause (source_at words held f0 f2) s text
+suite_fails_here words held f0 f1 f2 asked bytes tree status.ReadFault text valid holds later why =
+    let rose : (Rose f1 f2 ⊎ Lacks held asked.suite) → Rose f0 f2 ⊎ Lacks held asked.suite = λ x. elim x [ inl r ↦ inl (Rose-later f0 f1 f2 later r) | inr l ↦ inr l ] in
+    inr (record { asked = asked; valid = valid; program = (bytes, tree, holds); unread = rose why.0; message = why.1 })
+suite_fails_here words held f0 f1 f2 asked bytes tree status.SuiteRefused text valid holds later why =
+    record { asked = asked; valid = valid; program = (bytes, tree, holds); refused = why.0; message = why.1 }
+suite_fails_here words held f0 f1 f2 asked bytes tree status.NoMemory text valid holds later why = why
+suite_fails_here words held f0 f1 f2 asked bytes tree _ text valid holds later why = absurd why
 
-pub suite_fails : (words : List (List ℕ)) (held mid : Held) (f0 f1 f2 : ℕ) (program suite : List ℕ) (bytes : List ℕ) (tree : List Outer) (r : Refusal) → names_in words ≡ Some (program, suite) → HoldsProgram held program bytes tree → mid ≡ held → f0 ≤ f1 → GivesNoSuite mid suite f1 f2 r
-    → Cause (source words held f0 f2) (status_of r) (message_of r)
-suite_fails words held mid f0 f1 f2 program suite bytes tree r lawful holds same later why =
-    suite_fails_here words held f0 f1 f2 program suite bytes tree r lawful holds later (subst (λ (h : Held). GivesNoSuite h suite f1 f2 r) same why)
+-- the same where the files are the same after the reading of the program
+pub suite_fails : (words : List (List ℕ)) (held mid : Option Files) (f0 f1 f2 : ℕ) (asked : Asked) (bytes : List ℕ) (tree : List Outer) (s : Status) (text : List ℕ)
+    → command_in words ≡ Some (repair asked) → HoldsProgram (file_at held asked.program f0 f1) bytes tree → mid ≡ held → f0 ≤ f1 → GivesNoSuite (file_at mid asked.suite f1 f2) s text
+    → Cause (source_at words held f0 f2) s text
+suite_fails words held mid f0 f1 f2 asked bytes tree s text valid holds same later why =
+    suite_fails_here words held f0 f1 f2 asked bytes tree s text valid holds later (subst (λ (h : Option Files). GivesNoSuite (file_at h asked.suite f1 f2) s text) same why)
 
 -- both files were accepted
-pub both_accepted : (words : List (List ℕ)) (held mid : Held) (f0 f2 : ℕ) (program suite : List ℕ) (bytes : List ℕ) (tree : List Outer) (tests : List Test) → names_in words ≡ Some (program, suite) → HoldsProgram held program bytes tree → mid ≡ held → HoldsSuite mid suite tests → States (source words held f0 f2) bytes tree tests
-both_accepted words held mid f0 f2 program suite bytes tree tests lawful holds same stated =
-    (record { program = program; suite = suite; lawful = lawful }, holds, subst (λ (h : Held). HoldsSuite h suite tests) same stated)
+pub suite_held : (held mid : Option Files) (name : List ℕ) (f0 f1 f2 : ℕ) (tests : List Test) (limit : ℕ) → mid ≡ held → HoldsSuite (file_at mid name f1 f2) tests limit
+    → HoldsSuite (file_at held name f0 f2) tests limit
+suite_held held mid name f0 f1 f2 tests limit same h = subst (λ (h : Option Files). HoldsSuite (file_at h name f0 f2) tests limit) same h
+
+-- the limit of the suites can be run
+pub default_is_limit : (limit : ℕ) → limit ≡ default_limit → IsLimit limit
+default_is_limit limit e = record { some = omega (arith, e); most = omega (arith, e) }
 
 -- the text of the answer was written, or its write failed
-pub answer_reported : (s : Source) (out err : Told) (answer : Answer) (text : List ℕ) (result : Status) → IsAnswer s answer text → Reports out err answer text result → Ends s out err result
+pub answer_reported : (s : Source) (out err : Seen) (answer : Answer) (text : List ℕ) (result : Status) → IsAnswer s answer text → Reports out err answer text result → Ends s out err result
 answer_reported s out err answer.Sound text result right (inl w) = subst (Ends s out err) (sym w.0) (record { text = text; right = right; written = w.1; silent = w.2 })
 answer_reported s out err (answer.Patch rank) text result right (inl w) = subst (Ends s out err) (sym w.0) (rank, record { text = text; right = right; written = w.1; silent = w.2 })
 answer_reported s out err answer.Nothing text result right (inl w) = subst (Ends s out err) (sym w.0) (record { text = text; right = right; written = w.1; silent = w.2 })

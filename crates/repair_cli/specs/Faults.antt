@@ -1,58 +1,54 @@
--- Why a source is refused: its first fault, and the message that tells it.
-use Rattle.std.specs.Prelude.{◌≡◌, ◌≢◌, ℕ, ◌<◌, ◌≤◌, List, length, Option, Some, None, Ok, Err}
+-- Why a source is refused: its first fault, with its place and its words, and the message that these give.
+use Rattle.std.specs.Prelude.{◌≡◌, ◌≢◌, ℕ, ◌<◌, List, length, Option, Some, None, Ok, Err, option_map, codes}
 use Rattle.c_tree.specs.Tree.{Outer}
 use Rattle.c_lex.specs.declared.fault.LexFault.{LexFault}
 use Rattle.c_lex.specs.declared.fault.LexFault.TheVariants as lex
+use Rattle.c_lex.specs.FaultWords as lexer
 use Rattle.c_lex.specs.Tokens.{Lexes}
 use Rattle.c_grammar.specs.Grammar.{Tokens}
-use Rattle.c_grammar.specs.Judge.{Judged, unexpected_at, too_deep_at}
 use Rattle.c_parse.specs.declared.fault.ParseFault.{ParseFault}
 use Rattle.c_parse.specs.declared.fault.ParseFault.TheVariants as parse
-use Rattle.c_parse.specs.Faults.{place_of}
-use Rattle.repair_cli.specs.declared.accept.ProgramFault.{ProgramFault}
-use Rattle.repair_cli.specs.declared.accept.ProgramFault.TheVariants.{Lex, Parse, Unsupported, NoMemory}
-use Rattle.repair_cli.specs.declared.fault.Words.{Words}
-use Rattle.repair_cli.specs.declared.fault.Words.TheVariants as words
-use Rattle.repair_cli.specs.Accepted.{IsCut, IsRead, IsRunnable}
-use Rattle.repair_cli.specs.FaultTexts.{fault_text}
-use Rattle.repair_cli.specs.Texts as text
+use Rattle.c_parse.specs.FaultWords as parser
+use Rattle.c_parse.specs.Faults.{Causes}
+use Rattle.repair_cli.specs.Accepted.{IsShort, IsCut, IsRead, IsRunnable}
+use Rattle.repair_cli.specs.Texts.{position_of, faulty}
+use Rattle.repair_cli.specs.declared.fault.ProgramFault.{ProgramFault}
+use Rattle.repair_cli.specs.declared.fault.ProgramFault.TheVariants.{TooLong, Lex, Parse, Unsupported, NoMemory}
+use Rattle.repair_cli.specs.declared.limits.TheConstants.{SOURCE_LIMIT}
 
--- the place of a lexical fault, and the words that tell it; want of memory has none
-abbrev pub lexical : LexFault → Option (ℕ × Words)
-lexical (lex.StrayByte place) = Some (place, words.StrayByte)
-lexical (lex.OpenComment place) = Some (place, words.OpenComment)
-lexical (lex.OpenLiteral place) = Some (place, words.OpenLiteral)
-lexical (lex.BadConstant place) = Some (place, words.BadConstant)
-lexical (lex.ConstantTooLarge place) = Some (place, words.ConstantTooLarge)
-lexical (lex.DirectiveLate place) = Some (place, words.DirectiveLate)
-lexical (lex.DirectiveUnknown place) = Some (place, words.DirectiveUnknown)
-lexical (lex.MacroTwice place) = Some (place, words.MacroTwice)
-lexical (lex.Digraph place) = Some (place, words.Digraph)
-lexical (lex.LineSplice place) = Some (place, words.LineSplice)
-lexical (lex.Trigraph place) = Some (place, words.Trigraph)
-lexical lex.NoMemory = None
+-- the place of a fault in the source, if it has one
+abbrev pub fault_place : ProgramFault → Option ℕ
+fault_place TooLong = None
+fault_place (Lex f) = lexer.place_of f
+fault_place (Parse f) = parser.fault_place f
+fault_place Unsupported = None
+fault_place NoMemory = None
+
+-- its words
+abbrev pub fault_words : ProgramFault → List ℕ
+fault_words TooLong = codes "too long"
+fault_words (Lex f) = lexer.words_of f
+fault_words (Parse f) = parser.fault_words f
+fault_words Unsupported = codes "unsupported"
+fault_words NoMemory = codes "out of memory"
 
 -- no program is this tree
 abbrev pub IsNotRunnable : List Outer → Type 0
 IsNotRunnable tree = (program : List Outer) → IsRunnable tree program → ⊥
 
--- the first fault of a source that isn't too long: its place, and the words that tell it
-pub data IsFault (bytes : List ℕ) : ℕ → Words → Type 0 where
-  of_tokens : {place : ℕ} {said : Words} (f : LexFault) → Lexes bytes (Err f) → lexical f ≡ Some (place, said) → IsFault bytes place said
-  unexpected : {tokens rest : Tokens} → Lexes bytes (Ok tokens) → Judged 64 tokens (unexpected_at rest) → IsFault bytes (place_of (length bytes) rest) words.Unexpected
-  too_deep : {tokens rest : Tokens} → Lexes bytes (Ok tokens) → Judged 64 tokens (too_deep_at rest) → IsFault bytes (place_of (length bytes) rest) words.TooDeep
+-- the first fault of a source
+pub data IsFault (bytes : List ℕ) : ProgramFault → Type 0 where
+  too_long : SOURCE_LIMIT < length bytes → IsFault bytes TooLong
+  of_text : (f : LexFault) → f ≢ lex.NoMemory → IsShort bytes → Lexes bytes (Err f) → IsFault bytes (Lex f)
+  of_tokens : (f : ParseFault) (tokens : Tokens) → f ≢ parse.NoMemory → IsCut bytes tokens → Causes (length bytes) tokens f → IsFault bytes (Parse f)
+  of_tree : (tree : List Outer) → IsRead bytes tree → IsNotRunnable tree → IsFault bytes Unsupported
 
--- why the source in the file of this name states no program, and the message that tells it
-pub data Refuses (name bytes : List ℕ) : List ℕ → Type 0 where
-  too_long : 65536 < length bytes → Refuses name bytes (text.too_long name)
-  faulty : (place : ℕ) (said : Words) → length bytes ≤ 65536 → IsFault bytes place said → Refuses name bytes (text.faulty name bytes place (fault_text said))
-  unsupported : (tree : List Outer) → IsRead bytes tree → IsNotRunnable tree → Refuses name bytes (text.unsupported name)
+-- the message that the source of this name, with these bytes, has this fault
+abbrev pub fault_message : List ℕ → List ℕ → ProgramFault → List ℕ
+fault_message name bytes f = faulty name (option_map (position_of bytes) (fault_place f)) (fault_words f)
 
--- why a source that is short gives no program; want of memory may come at any time
-abbrev pub RefusesProgram : List ℕ → ProgramFault → Type 0
-RefusesProgram bytes (Lex f) = f ≢ lex.NoMemory → Lexes bytes (Err f)
-RefusesProgram bytes (Parse (parse.Unexpected place)) = (tokens : Tokens) × (rest : Tokens) × Lexes bytes (Ok tokens) × Judged 64 tokens (unexpected_at rest) × (place ≡ place_of (length bytes) rest)
-RefusesProgram bytes (Parse (parse.TooDeep place)) = (tokens : Tokens) × (rest : Tokens) × Lexes bytes (Ok tokens) × Judged 64 tokens (too_deep_at rest) × (place ≡ place_of (length bytes) rest)
-RefusesProgram bytes (Parse parse.NoMemory) = Unit {0}
-RefusesProgram bytes Unsupported = (tree : List Outer) × IsRead bytes tree × IsNotRunnable tree
-RefusesProgram bytes NoMemory = Unit {0}
+-- the source of this name, with these bytes, states no program: this is the message of its first fault
+pub record Refuses (name bytes text : List ℕ) : Type 0 where
+  pub fault : ProgramFault
+  pub is_first : IsFault bytes fault
+  pub message : text ≡ fault_message name bytes fault

@@ -1,17 +1,23 @@
--- That there is one right answer at most, or one refusal.
+-- That there is one right answer at most, or one refusal; and that what a call answers is settled by its words and files.
 use Rattle.std.specs.Prelude.{◌≡◌, ℕ, List, Some}
 use Rattle.c_tree.specs.Tree.{Outer}
-use Rattle.c_stdio.specs.declared.test.Test.{Test}
+use Rattle.repair_job.specs.declared.answer.Answer.{Answer}
 use Rattle.repair_cli.specs.Accepted.{IsProgram}
-use Rattle.repair_cli.specs.Answer.{IsRight}
-use Rattle.repair_cli.specs.Faults.{Refuses}
-use Rattle.repair_cli.specs.Ends.{IsAnswer}
-use Rattle.repair_cli.specs.Source.{source}
-use Rattle.repair_cli.specs.declared.answer.Answer.{Answer}
+use Rattle.repair_cli.specs.Ends.{IsAnswer, Ends}
+use Rattle.repair_cli.specs.Faults.{IsFault, Refuses}
+use Rattle.repair_cli.specs.Sinks.{Seen, Appends}
+use Rattle.repair_cli.specs.Source.{Files, Source}
+use Rattle.repair_cli.specs.declared.fault.ProgramFault.{ProgramFault}
+use Rattle.repair_cli.specs.declared.status.Status.{Status}
+use Rattle.repair_cli.specs.declared.status.Status.TheVariants.{ReadFault, WriteFault, NoMemory}
 
 -- a source states one program at most
 abbrev pub OneProgram : Type 0
 OneProgram = (bytes : List ℕ) (p q : List Outer) → IsProgram bytes p → IsProgram bytes q → p ≡ q
+
+-- a source has one first fault at most
+abbrev pub OneFault : Type 0
+OneFault = (bytes : List ℕ) (f g : ProgramFault) → IsFault bytes f → IsFault bytes g → f ≡ g
 
 -- a source is refused with one message at most
 abbrev pub OneRefusal : Type 0
@@ -21,11 +27,40 @@ OneRefusal = (name bytes t u : List ℕ) → Refuses name bytes t → Refuses na
 abbrev pub NeverBoth : Type 0
 NeverBoth = (name bytes t : List ℕ) (p : List Outer) → IsProgram bytes p → Refuses name bytes t → ⊥
 
--- one answer at most is right for a program and its tests
-abbrev pub OneAnswer : Type 0
-OneAnswer = (program : List Outer) (tests : List Test) (a b : Answer) → IsRight program tests a → IsRight program tests b → a ≡ b
+-- these words and files, which are known; the failures don't matter
+abbrev pub given : List (List ℕ) → Files → ℕ → ℕ → Source
+given words files before after = record { words = words; held = Some files; faults = before; faults_after = after }
 
--- where the files are told, one answer at most is right for them, with one text
+-- where the files are known, one answer at most is right for them, with one text
 abbrev pub OneReply : Type 0
-OneReply = (words : List (List ℕ)) (files : List (List ℕ × List ℕ)) (before after : ℕ) (a b : Answer) (t u : List ℕ)
-    → IsAnswer (source words (Some files) before after) a t → IsAnswer (source words (Some files) before after) b u → (a ≡ b) × (t ≡ u)
+OneReply = (words : List (List ℕ)) (files : Files) (m n m' n' : ℕ) (a b : Answer) (t u : List ℕ)
+    → IsAnswer (given words files m n) a t → IsAnswer (given words files m' n') b u → (a ≡ b) × (t ≡ u)
+
+-- the call gave an answer, or refused what it was given: no read, no write and no allocation failed
+abbrev pub IsSettled : Status → Type 0
+IsSettled ReadFault = ⊥
+IsSettled WriteFault = ⊥
+IsSettled NoMemory = ⊥
+IsSettled _ = Unit {0}
+
+-- a call with these words and files that ended with an answer or a refusal
+pub record Settled (words : List (List ℕ)) (files : Files) : Type 0 where
+  pub faults : ℕ
+  pub faults_after : ℕ
+  pub out : Seen
+  pub err : Seen
+  pub status : Status
+  pub ends : Ends (given words files faults faults_after) out err status
+  pub settled : IsSettled status
+
+-- two sinks had the same bytes appended, where their bytes are known
+pub record AppendAlike (sink other : Seen) : Type 0 where
+  pub text : List ℕ
+  pub one : Appends sink text
+  pub both : Appends other text
+
+-- two calls with the same words and the same files that end with an answer or a refusal end with one status, and append
+-- the same bytes to standard output and to standard error, whatever the counts of failures
+abbrev pub OneEnd : Type 0
+OneEnd = (words : List (List ℕ)) (files : Files) (one other : Settled words files)
+    → (one.status ≡ other.status) × AppendAlike one.out other.out × AppendAlike one.err other.err

@@ -1,43 +1,46 @@
 -- What the parts of a call do: reading a file, writing an answer and writing a message.
-use Rattle.std.specs.Prelude.{◌≡◌, ◌⊎◌, ℕ, List, []}
-use Rattle.fx_io.specs.Faults.{Rose}
-use Rattle.fx_io.specs.Held.{Lacks}
+use Rattle.std.specs.Prelude.{◌≡◌, ◌≢◌, ◌⊎◌, ℕ, List, []}
+use Rattle.repair_job.specs.declared.answer.Answer.{Answer}
 use Rattle.repair_cli.specs.Ends.{status_of_answer}
-use Rattle.repair_cli.specs.Sinks.{Told, Appends, Breaks, AppendsOrBreaks}
-use Rattle.repair_cli.specs.Source.{Held, HoldsNoProgram, HoldsNoSuite}
-use Rattle.repair_cli.specs.Faults.{Refuses}
-use Rattle.repair_cli.specs.Texts.{cannot_read, cannot_write, no_memory}
-use Rattle.repair_cli.specs.declared.answer.Answer.{Answer}
-use Rattle.repair_cli.specs.declared.refusal.Refusal.{Refusal}
-use Rattle.repair_cli.specs.declared.refusal.Refusal.TheVariants as reason
+use Rattle.repair_cli.specs.Faults.{IsFault, Refuses}
+use Rattle.repair_cli.specs.Sinks.{Seen, Appends, Breaks, AppendsOrBreaks}
+use Rattle.repair_cli.specs.Source.{File, IsUnreadable, HoldsNoProgram, HoldsNoSuite}
+use Rattle.repair_cli.specs.Texts.{bad_suite, cannot_read, cannot_write, no_memory}
+use Rattle.repair_cli.specs.declared.fault.ProgramFault.{ProgramFault}
+use Rattle.repair_cli.specs.declared.fault.ProgramFault.TheVariants as fault
 use Rattle.repair_cli.specs.declared.status.Status.{Status}
-use Rattle.repair_cli.specs.declared.status.Status.TheVariants.{ProgramRefused, ReadFault, WriteFault, NoMemory}
+use Rattle.repair_cli.specs.declared.status.Status.TheVariants.{ProgramRefused, SuiteRefused, ReadFault, WriteFault, NoMemory}
 
--- the refusal of the source in the file of this name, with these bytes; want of memory has no cause
+-- this is the first fault of the source, unless memory ran out, which may come at any time
+abbrev pub IsFaultUnless : List ℕ → ProgramFault → Type 0
+IsFaultUnless bytes f = f ≢ fault.NoMemory → IsFault bytes f
+
+-- the refusal of the source of this name, with these bytes; running out of memory has no cause
 abbrev pub IsRefusal : List ℕ → List ℕ → Status → List ℕ → Type 0
 IsRefusal name bytes ProgramRefused text = Refuses name bytes text
 IsRefusal name bytes NoMemory text = text ≡ no_memory
 IsRefusal name bytes _ text = ⊥
 
--- why the file of this name gave no program, by the status, and the message that tells it
-abbrev pub GivesNoProgram : Held → List ℕ → ℕ → ℕ → Status → List ℕ → Type 0
-GivesNoProgram held name before now ReadFault text = (Rose before now ⊎ Lacks held name) × (text ≡ cannot_read name)
-GivesNoProgram held name before now ProgramRefused text = HoldsNoProgram held name text
-GivesNoProgram held name before now NoMemory text = text ≡ no_memory
-GivesNoProgram held name before now _ text = ⊥
+-- why the file gave no program, by the status, with its message
+abbrev pub GivesNoProgram : File → Status → List ℕ → Type 0
+GivesNoProgram file ReadFault text = IsUnreadable file × (text ≡ cannot_read file.name)
+GivesNoProgram file ProgramRefused text = HoldsNoProgram file text
+GivesNoProgram file NoMemory text = text ≡ no_memory
+GivesNoProgram file _ text = ⊥
 
--- why the file of this name gave no suite
-abbrev pub GivesNoSuite : Held → List ℕ → ℕ → ℕ → Refusal → Type 0
-GivesNoSuite held name before now (reason.Read n) = (n.now ≡ name) × (Rose before now ⊎ Lacks held name)
-GivesNoSuite held name before now (reason.Suite n) = (n.now ≡ name) × HoldsNoSuite held name
-GivesNoSuite held name before now reason.Memory = Unit {0}
-GivesNoSuite held name before now _ = ⊥
+-- why the file gave no suite
+abbrev pub GivesNoSuite : File → Status → List ℕ → Type 0
+GivesNoSuite file ReadFault text = IsUnreadable file × (text ≡ cannot_read file.name)
+GivesNoSuite file SuiteRefused text = HoldsNoSuite file × (text ≡ bad_suite file.name)
+GivesNoSuite file NoMemory text = text ≡ no_memory
+GivesNoSuite file _ text = ⊥
 
 -- the text was written, with this status, or its write failed
-abbrev pub Writes : Told → List ℕ → Status → Status → Type 0
+abbrev pub Writes : Seen → List ℕ → Status → Status → Type 0
 Writes err text status result = ((result ≡ status) × Appends err text) ⊎ ((result ≡ WriteFault) × Breaks err text)
 
 -- the text of an answer was written, and no message; or its write failed, and the message of that was written, or not
-abbrev pub Reports : Told → Told → Answer → List ℕ → Status → Type 0
+abbrev pub Reports : Seen → Seen → Answer → List ℕ → Status → Type 0
 Reports out err answer text result =
-    ((result ≡ status_of_answer answer) × Appends out text × Appends err []) ⊎ ((result ≡ WriteFault) × Breaks out text × AppendsOrBreaks err cannot_write)
+    ((result ≡ status_of_answer answer) × Appends out text × Appends err [])
+    ⊎ ((result ≡ WriteFault) × Breaks out text × AppendsOrBreaks err cannot_write)

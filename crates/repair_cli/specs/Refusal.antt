@@ -1,7 +1,7 @@
 -- The status and the message of each reason why there is no answer.
 use Rattle.std.specs.Prelude.{ℕ, List}
-use Rattle.repair_cli.specs.Texts.{usage, unsupported, too_long, located, bad_suite, cannot_read, cannot_write, no_memory}
-use Rattle.repair_cli.specs.FaultTexts.{fault_text}
+use Rattle.repair_cli.specs.Faults.{fault_words}
+use Rattle.repair_cli.specs.Texts.{usage, faulty, bad_suite, cannot_read, cannot_write, no_memory}
 use Rattle.repair_cli.specs.declared.refusal.Refusal.{Refusal}
 use Rattle.repair_cli.specs.declared.refusal.Refusal.TheVariants as reason
 use Rattle.repair_cli.specs.declared.status.Status.{Status}
@@ -10,9 +10,7 @@ use Rattle.repair_cli.specs.declared.status.Status.TheVariants.{Usage, ProgramRe
 -- the status
 abbrev pub status_of : Refusal → Status
 status_of reason.Usage = Usage
-status_of (reason.Program name) = ProgramRefused
-status_of (reason.Fault name line column words) = ProgramRefused
-status_of (reason.TooLong name) = ProgramRefused
+status_of (reason.Program name fault at) = ProgramRefused
 status_of (reason.Suite name) = SuiteRefused
 status_of (reason.Read name) = ReadFault
 status_of reason.Write = WriteFault
@@ -21,9 +19,7 @@ status_of reason.Memory = NoMemory
 -- the message
 abbrev pub message_of : Refusal → List ℕ
 message_of reason.Usage = usage
-message_of (reason.Program name) = unsupported name.now
-message_of (reason.Fault name line column words) = located name.now line column (fault_text words)
-message_of (reason.TooLong name) = too_long name.now
+message_of (reason.Program name fault at) = faulty name.now at (fault_words fault)
 message_of (reason.Suite name) = bad_suite name.now
 message_of (reason.Read name) = cannot_read name.now
 message_of reason.Write = cannot_write

@@ -1,18 +1,10 @@
--- The texts that the program writes: each is one line.
-use Rattle.std.specs.Prelude.{ℕ, ◌+◌, ◌==◌, not, List, ◌++◌, take, codes, decimal}
+-- The messages of a call: each is one line.
+use Rattle.std.specs.Prelude.{ℕ, ◌+◌, ◌==◌, not, List, ◌++◌, take, Option, Some, None, codes, decimal}
 use Rattle.std.specs.List.{count_by, suffix_len}
 
--- the words, if they aren't lawful
+-- the words are no command
 abbrev pub usage : List ℕ
 usage = codes "usage: f1x repair PROGRAM SUITE\n"
-
--- the program of this name is refused
-abbrev pub unsupported : List ℕ → List ℕ
-unsupported name = name ++ codes ": unsupported\n"
-
--- the program of this name has more bytes than one may have
-abbrev pub too_long : List ℕ → List ℕ
-too_long name = name ++ codes ": too long\n"
 
 -- the line of a place: 1, and the line feeds before it
 abbrev pub line_of : List ℕ → ℕ → ℕ
@@ -22,17 +14,26 @@ line_of bytes place = 1 + count_by (λ b. b == 10) (take place bytes)
 abbrev pub column_of : List ℕ → ℕ → ℕ
 column_of bytes place = 1 + suffix_len (λ b. not (b == 10)) (take place bytes)
 
--- the program of this name has a fault, at a line and a column, that these words tell
+-- both of a place
+abbrev pub position_of : List ℕ → ℕ → ℕ × ℕ
+position_of bytes place = (line_of bytes place, column_of bytes place)
+
+-- these words are said of the file of this name
+abbrev pub said_of : List ℕ → List ℕ → List ℕ
+said_of name words = name ++ codes ": " ++ words ++ codes "\n"
+
+-- these words are said of a line and a column in it
 abbrev pub located : List ℕ → ℕ → ℕ → List ℕ → List ℕ
 located name line column words = name ++ codes ":" ++ decimal line ++ codes ":" ++ decimal column ++ codes ": " ++ words ++ codes "\n"
 
--- the same, at a place in the program's bytes
-abbrev pub faulty : List ℕ → List ℕ → ℕ → List ℕ → List ℕ
-faulty name bytes place words = located name (line_of bytes place) (column_of bytes place) words
+-- these words are said of the file, with the line and the column, if there is a place
+abbrev pub faulty : List ℕ → Option (ℕ × ℕ) → List ℕ → List ℕ
+faulty name None words = said_of name words
+faulty name (Some at) words = located name at.0 at.1 words
 
 -- the suite of this name is refused
 abbrev pub bad_suite : List ℕ → List ℕ
-bad_suite name = name ++ codes ": bad suite\n"
+bad_suite name = said_of name (codes "bad suite")
 
 -- the file of this name could not be read
 abbrev pub cannot_read : List ℕ → List ℕ
@@ -42,14 +43,6 @@ cannot_read name = codes "f1x: cannot read " ++ name ++ codes "\n"
 abbrev pub cannot_write : List ℕ
 cannot_write = codes "f1x: cannot write\n"
 
--- there was no memory
+-- memory ran out
 abbrev pub no_memory : List ℕ
 no_memory = codes "f1x: no memory\n"
-
--- the program passes every test
-abbrev pub nothing_to_repair : List ℕ
-nothing_to_repair = codes "nothing to repair\n"
-
--- no patch makes the program pass every test
-abbrev pub no_patch : List ℕ
-no_patch = codes "none\n"

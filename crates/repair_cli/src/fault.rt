@@ -1,57 +1,47 @@
-//! What is wrong with a program at a place in it.
-ghost use Rattle.std.specs.Prelude.{◌≡◌, ◌++◌, codes};
-ghost use Rattle.repair_cli.specs.FaultTexts.{fault_text};
+//! Why a source gives no program.
+ghost use Rattle.std.specs.Prelude.{◌≡◌};
+ghost use Rattle.repair_cli.specs.Faults.{fault_place, fault_words};
 
-/// What is wrong at a place of a program.
-#[derive(Clone, Copy)]
-pub(crate) enum Words {
-    /// A byte that begins no token.
-    StrayByte,
-    /// A comment without its end.
-    OpenComment,
-    /// A character constant or a string literal without its end.
-    OpenLiteral,
-    /// A constant of no lawful form.
-    BadConstant,
-    /// A constant that no `int` holds.
-    ConstantTooLarge,
-    /// A directive behind the first declaration.
-    DirectiveLate,
-    /// A directive other than `#include` and `#define`.
-    DirectiveUnknown,
-    /// A macro that is defined a second time.
-    MacroTwice,
-    /// A digraph (C11 6.4.6 p3).
-    Digraph,
-    /// A backslash at the end of a line (C11 5.1.1.2).
-    LineSplice,
-    /// A trigraph (C11 5.2.1.1).
-    Trigraph,
-    /// A token that no program has at this place.
-    Unexpected,
-    /// More parts inside one another than a program may have.
-    TooDeep,
+use c_lex::LexFault;
+use c_parse::ParseFault;
+
+/// Why a source gives no program.
+#[derive(Clone, Copy, Debug, PartialEq, Eq)]
+pub(crate) enum ProgramFault {
+    /// It has more bytes than a source may have.
+    TooLong,
+    /// It has no tokens.
+    Lex(LexFault),
+    /// Its tokens are no program of the language.
+    Parse(ParseFault),
+    /// It can't be run yet.
+    Unsupported,
+    /// There was no memory for the work.
+    NoMemory,
 }
 
-impl Words {
-    /// The words that tell it, with the line feed behind them.
-    pub(crate) fn line(self) -> &'static [u8]
-        ensures { result.now ≡ fault_text self ++ codes "\n" }
+impl ProgramFault {
+    /// The place of the fault in the source, if it has one.
+    pub(crate) fn place(&self) -> Option<u32>
+        ensures { result ≡ fault_place self.now }
     {
         match self {
-            Words::StrayByte => b"stray byte\n",
-            Words::OpenComment => b"comment is not closed\n",
-            Words::OpenLiteral => b"literal is not closed\n",
-            Words::BadConstant => b"bad constant\n",
-            Words::ConstantTooLarge => b"constant too large\n",
-            Words::DirectiveLate => b"directive after the first declaration\n",
-            Words::DirectiveUnknown => b"unknown directive\n",
-            Words::MacroTwice => b"macro defined twice\n",
-            Words::Digraph => b"digraph\n",
-            Words::LineSplice => b"line splice\n",
-            Words::Trigraph => b"trigraph\n",
-            Words::Unexpected => b"unexpected token\n",
-            Words::TooDeep => b"nested too deep\n",
+            ProgramFault::Lex(fault) => fault.place(),
+            ProgramFault::Parse(fault) => fault.place(),
+            ProgramFault::TooLong | ProgramFault::Unsupported | ProgramFault::NoMemory => None,
+        }
+    }
+
+    /// What is wrong, in words.
+    pub(crate) fn words(&self) -> &'static str
+        ensures { result.now ≡ fault_words self.now }
+    {
+        match self {
+            ProgramFault::TooLong => "too long",
+            ProgramFault::Lex(fault) => fault.words(),
+            ProgramFault::Parse(fault) => fault.words(),
+            ProgramFault::Unsupported => "unsupported",
+            ProgramFault::NoMemory => "out of memory",
         }
     }
 }

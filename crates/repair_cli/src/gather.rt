@@ -1,32 +1,24 @@
-//! Reads the program and the suite, and judges them.
-ghost use Rattle.std.specs.Prelude.{◌≡◌, ◌≤◌, length, IfOk, IfErr, MatchResult};
+//! Reads the program and the suite that the words name, and judges them.
+ghost use Rattle.std.specs.Prelude.{◌≡◌, ◌≤◌, IfOk, IfErr, IfSome, MatchResult, unwrap_or};
 ghost use Rattle.fx_io.specs.Held.{Lacks};
 ghost use Rattle.c_types.specs.Shown.{tree_of};
-ghost use Rattle.test_suite.specs.Suite.{default_limit};
+ghost use Rattle.repair_cli.specs.Accepted.{IsShort};
 ghost use Rattle.repair_cli.specs.Complete.{HasFiles, OnRead};
-ghost use Rattle.repair_cli.specs.Words.{words_of, names_in};
-ghost use Rattle.repair_cli.specs.Source.{source, States, Cause, HoldsProgram, HoldsSuite};
+ghost use Rattle.repair_cli.specs.Jobs.{job_of, CanBeDone, IsLimit};
+ghost use Rattle.repair_cli.specs.Parts.{GivesNoProgram, GivesNoSuite, IsFaultUnless, IsRefusal};
 ghost use Rattle.repair_cli.specs.Refusal.{status_of, message_of};
-ghost use Rattle.repair_cli.specs.Faults.{RefusesProgram, lexical};
-ghost use Rattle.repair_cli.specs.Parts.{GivesNoProgram, GivesNoSuite, IsRefusal};
-ghost use Rattle.repair_cli.specs.declared.accept.ProgramFault.TheVariants.{Lex, Parse};
+ghost use Rattle.repair_cli.specs.Source.{source, file, States, Cause, HoldsProgram, HoldsSuite};
 
-use crate::accept::{ProgramFault, accept};
-use crate::fault::Words;
+use crate::accept::accept;
+use crate::fault::ProgramFault;
+use crate::job::Job;
+use crate::limits::{SOURCE_LIMIT, SUITE_LIMIT};
 use crate::refusal::Refusal;
-use crate::words::names_of;
-use c_lex::LexFault;
-use c_parse::ParseFault;
+use crate::words::{Command, Options, command_of};
 use c_types::Typed;
 use fx_io::{Files, ReadEnd, read_whole};
 use std::alloc::Global;
 use test_suite::{Suite, SuiteFault, read_suite};
-
-/// The most bytes that a program may have.
-const PROGRAM_CAP: usize = 65_536;
-
-/// The most bytes that a suite may have.
-const SUITE_CAP: usize = 4_194_304;
 
 /// The program that is to be repaired, with the bytes of its source.
 #[derive(Drop)]
@@ -35,14 +27,7 @@ pub(crate) struct Subject {
     pub(crate) program: Typed,
 }
 
-/// The program that is to be repaired, and its suite.
-#[derive(Drop)]
-pub(crate) struct Job {
-    pub(crate) subject: Subject,
-    pub(crate) suite: Suite,
-}
-
-/// The program and the suite that the words name: first the program is read and judged, then the suite.
+/// The job that the words and the files state: first the program is read and judged, then the suite.
 pub(crate) fn gathered<'a, F: Files>(
     alloc: Global,
     words: &'a [String],
@@ -50,21 +35,44 @@ pub(crate) fn gathered<'a, F: Files>(
 ) -> Result<Job, Refusal<'a>>
     ensures held { F.held files.new ≡ F.held files.old }
     ensures faults { F.faults files.old ≤ F.faults files.new }
-    ensures gathered { MatchResult result
-        (λ job. States (source (words_of words.now) (F.held files.old) (F.faults files.old) (F.faults files.new)) job.subject.source.items (tree_of job.subject.program) job.suite.tests.items × (job.suite.limit ≡ default_limit))
-        (λ refusal. Cause (source (words_of words.now) (F.held files.old) (F.faults files.old) (F.faults files.new)) (status_of refusal) (message_of refusal)) }
-    ensures sure { F.sure files.old → HasFiles (F.held files.old) (names_in (words_of words.now)) → IfErr result (λ refusal. OnRead refusal ⊥) }
+    ensures gathered { let given = source F.held F.faults words.now files.old files.new in
+        MatchResult result
+        (λ job. States given (job_of job) × CanBeDone (job_of job))
+        (λ refusal. Cause given (status_of refusal) (message_of refusal)) }
+    ensures sure { let given = source F.held F.faults words.now files.old files.new in
+        F.sure files.old → HasFiles given → IfErr result (λ refusal. OnRead refusal ⊥) }
 {
-    let Some((program_name, suite_name)) = names_of(words) else {
-        return Err(Refusal::Usage);
+    let asked = match command_of(words) {
+        Some(Command::Repair(asked)) => asked,
+        None => return Err(Refusal::Usage),
     };
-    let subject = match program_named(alloc, files, program_name) {
+    let subject = match program_named(alloc, files, asked.program) {
         Ok(subject) => subject,
         Err(refusal) => return Err(refusal),
     };
-    match suite_named(alloc, files, suite_name) {
-        Ok(suite) => Ok(Job { subject, suite }),
-        Err(refusal) => Err(refusal),
+    let suite = match suite_named(alloc, files, asked.suite) {
+        Ok(suite) => suite,
+        Err(refusal) => return Err(refusal),
+    };
+    Ok(job_with(subject, suite, asked.options))
+}
+
+// The job of this program and this suite, with these options.
+fn job_with(subject: Subject, suite: Suite, options: Options) -> Job
+    ensures source { result.source.items ≡ subject.source.items }
+    ensures program { tree_of result.program ≡ tree_of subject.program }
+    ensures tests { result.tests.items ≡ suite.tests.items }
+    ensures limit { result.limit ≡ unwrap_or options.limit suite.limit }
+    ensures patches { result.most_patches ≡ options.patches }
+{
+    let Subject { source, program } = subject;
+    let Suite { tests, limit } = suite;
+    Job {
+        source,
+        program,
+        tests,
+        limit: options.limit.unwrap_or(limit),
+        most_patches: options.patches,
     }
 }
 
@@ -76,14 +84,17 @@ fn program_named<'a, F: Files>(
 ) -> Result<Subject, Refusal<'a>>
     ensures held { F.held files.new ≡ F.held files.old }
     ensures faults { F.faults files.old ≤ F.faults files.new }
-    ensures program { IfOk result (λ subject. HoldsProgram (F.held files.old) name.now subject.source.items (tree_of subject.program)) }
-    ensures refusal { IfErr result (λ refusal. GivesNoProgram (F.held files.old) name.now (F.faults files.old) (F.faults files.new) (status_of refusal) (message_of refusal)) }
-    ensures sure { F.sure files.old → F.sure files.new × IfErr result (λ refusal. OnRead refusal (Lacks (F.held files.old) name.now)) }
+    ensures program { let named = file F.held F.faults name.now files.old files.new in
+        IfOk result (λ subject. HoldsProgram named subject.source.items (tree_of subject.program)) }
+    ensures refusal { let named = file F.held F.faults name.now files.old files.new in
+        IfErr result (λ refusal. GivesNoProgram named (status_of refusal) (message_of refusal)) }
+    ensures sure { F.sure files.old →
+        F.sure files.new × IfErr result (λ refusal. OnRead refusal (Lacks (F.held files.old) name.now)) }
 {
-    let source = match read_whole(alloc, files, name, PROGRAM_CAP) {
+    let source = match read_whole(alloc, files, name, SOURCE_LIMIT) {
         Ok(source) => source,
         Err(ReadEnd::Fault) => return Err(Refusal::Read(name)),
-        Err(ReadEnd::TooLong(_)) => return Err(Refusal::TooLong(name)),
+        Err(ReadEnd::TooLong(_)) => return Err(Refusal::whole(name, ProgramFault::TooLong)),
         Err(ReadEnd::NoMemory) => return Err(Refusal::Memory),
     };
     match accept(alloc, &source) {
@@ -92,64 +103,15 @@ fn program_named<'a, F: Files>(
     }
 }
 
-// The refusal of the source in the file of this name.
+// The refusal of the source of this name for this fault.
 fn refused<'a>(name: &'a str, source: &[u8], fault: ProgramFault) -> Refusal<'a>
-    requires short { length source.now ≤ 65536 }
-    requires fault { RefusesProgram source.now fault }
+    requires short { IsShort source.now }
+    requires fault { IsFaultUnless source.now fault }
     ensures { IsRefusal name.now source.now (status_of result) (message_of result) }
 {
     match fault {
-        ProgramFault::Lex(fault) => uncut(name, source, fault),
-        ProgramFault::Parse(fault) => misread(name, source, fault),
-        ProgramFault::Unsupported => Refusal::Program(name),
         ProgramFault::NoMemory => Refusal::Memory,
-    }
-}
-
-// The refusal of a source that has no tokens.
-fn uncut<'a>(name: &'a str, source: &[u8], fault: LexFault) -> Refusal<'a>
-    requires short { length source.now ≤ 65536 }
-    requires fault { RefusesProgram source.now (Lex fault) }
-    ensures { IsRefusal name.now source.now (status_of result) (message_of result) }
-{
-    match told(fault) {
-        Some((place, words)) => Refusal::at_place(name, source, place, words),
-        None => Refusal::Memory,
-    }
-}
-
-// The refusal of a source whose tokens are no program.
-fn misread<'a>(name: &'a str, source: &[u8], fault: ParseFault) -> Refusal<'a>
-    requires short { length source.now ≤ 65536 }
-    requires fault { RefusesProgram source.now (Parse fault) }
-    ensures { IsRefusal name.now source.now (status_of result) (message_of result) }
-{
-    match fault {
-        ParseFault::Unexpected(place) => {
-            Refusal::at_place(name, source, place, Words::Unexpected)
-        }
-        ParseFault::TooDeep(place) => Refusal::at_place(name, source, place, Words::TooDeep),
-        ParseFault::NoMemory => Refusal::Memory,
-    }
-}
-
-// The place of a lexical fault, and the words that tell it.
-fn told(fault: LexFault) -> Option<(u32, Words)>
-    ensures { result ≡ lexical fault }
-{
-    match fault {
-        LexFault::StrayByte(place) => Some((place, Words::StrayByte)),
-        LexFault::OpenComment(place) => Some((place, Words::OpenComment)),
-        LexFault::OpenLiteral(place) => Some((place, Words::OpenLiteral)),
-        LexFault::BadConstant(place) => Some((place, Words::BadConstant)),
-        LexFault::ConstantTooLarge(place) => Some((place, Words::ConstantTooLarge)),
-        LexFault::DirectiveLate(place) => Some((place, Words::DirectiveLate)),
-        LexFault::DirectiveUnknown(place) => Some((place, Words::DirectiveUnknown)),
-        LexFault::MacroTwice(place) => Some((place, Words::MacroTwice)),
-        LexFault::Digraph(place) => Some((place, Words::Digraph)),
-        LexFault::LineSplice(place) => Some((place, Words::LineSplice)),
-        LexFault::Trigraph(place) => Some((place, Words::Trigraph)),
-        LexFault::NoMemory => None,
+        _ => Refusal::of_program(name, source, fault),
     }
 }
 
@@ -161,11 +123,14 @@ fn suite_named<'a, F: Files>(
 ) -> Result<Suite, Refusal<'a>>
     ensures held { F.held files.new ≡ F.held files.old }
     ensures faults { F.faults files.old ≤ F.faults files.new }
-    ensures suite { IfOk result (λ suite. HoldsSuite (F.held files.old) name.now suite.tests.items × (suite.limit ≡ default_limit)) }
-    ensures refusal { IfErr result (GivesNoSuite (F.held files.old) name.now (F.faults files.old) (F.faults files.new)) }
-    ensures sure { F.sure files.old → F.sure files.new × IfErr result (λ refusal. OnRead refusal (Lacks (F.held files.old) name.now)) }
+    ensures suite { let named = file F.held F.faults name.now files.old files.new in
+        IfOk result (λ suite. HoldsSuite named suite.tests.items suite.limit) }
+    ensures refusal { let named = file F.held F.faults name.now files.old files.new in
+        IfErr result (λ refusal. GivesNoSuite named (status_of refusal) (message_of refusal)) }
+    ensures sure { F.sure files.old →
+        F.sure files.new × IfErr result (λ refusal. OnRead refusal (Lacks (F.held files.old) name.now)) }
 {
-    let bytes = match read_whole(alloc, files, name, SUITE_CAP) {
+    let bytes = match read_whole(alloc, files, name, SUITE_LIMIT) {
         Ok(bytes) => bytes,
         Err(ReadEnd::Fault) => return Err(Refusal::Read(name)),
         Err(ReadEnd::TooLong(_)) => return Err(Refusal::Suite(name)),

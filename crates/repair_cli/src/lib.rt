@@ -5,7 +5,9 @@ mod accept;
 mod answer;
 mod fault;
 mod gather;
+mod job;
 mod laws;
+mod limits;
 mod position;
 mod refusal;
 mod report;
@@ -17,6 +19,6 @@ mod tests;
 mod tried;
 mod words;
 
-pub use laws::one_answer;
+pub use laws::{one_answer, one_end};
 pub use run::run_alone;
 pub use status::Status;

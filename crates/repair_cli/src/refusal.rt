@@ -1,30 +1,27 @@
-//! Why there is no answer, and the messages that tell it.
-ghost use Rattle.std.specs.Prelude.{◌≡◌, ◌+◌, ◌<◌, ◌≤◌, ◌^◌, ◌++◌, length, None};
+//! Why there is no answer, and the messages that say so.
+ghost use Rattle.std.specs.Prelude.{◌≡◌, ◌≤◌, ◌++◌, length, IfSome, codes};
+ghost use Rattle.repair_cli.specs.Accepted.{IsShort};
+ghost use Rattle.repair_cli.specs.Faults.{fault_place, fault_words, fault_message};
+ghost use Rattle.repair_cli.specs.Message.{text_of};
 ghost use Rattle.repair_cli.specs.Refusal.{message_of, status_of};
-ghost use Rattle.repair_cli.specs.FaultTexts.{fault_text};
-ghost use Rattle.repair_cli.specs.Message.{place_text};
-ghost use Rattle.repair_cli.specs.Texts.{faulty};
+ghost use Rattle.repair_cli.specs.Texts.{said_of, faulty};
 
-use crate::fault::Words;
+use crate::fault::ProgramFault;
 use crate::position::line_and_column;
 use crate::status::Status;
 
-/// Why there is no answer, with the name of the file that the message tells.
+/// Why there is no answer, with the name of the file that the message is about.
 #[derive(Clone, Copy)]
 pub(crate) enum Refusal<'a> {
-    /// The words of the command line aren't lawful.
+    /// The words are no command.
     Usage,
     /// The program is refused.
-    Program(&'a str),
-    /// The program has a fault at this line and column, counted from 1.
-    Fault {
+    Program {
         name: &'a str,
-        line: u32,
-        column: u32,
-        words: Words,
+        fault: ProgramFault,
+        /// The line and the column of the fault, counted from 1, if it has a place.
+        at: Option<(u32, u32)>,
     },
-    /// The program has more bytes than one may have.
-    TooLong(&'a str),
     /// The suite is refused.
     Suite(&'a str),
     /// The file could not be read.
@@ -40,25 +37,36 @@ pub(crate) enum Refusal<'a> {
 pub(crate) struct Message<'a> {
     pub(crate) before: &'a [u8],
     pub(crate) name: &'a [u8],
-    /// The line and the column, where the message tells a place.
+    /// The line and the column, if there is a place.
     pub(crate) at: Option<(u32, u32)>,
-    pub(crate) after: &'a [u8],
+    pub(crate) between: &'a [u8],
+    pub(crate) words: &'a [u8],
+    pub(crate) end: &'a [u8],
 }
 
 impl<'a> Refusal<'a> {
-    /// What is wrong at this place of the source of the program of this name.
-    pub(crate) fn at_place(name: &'a str, source: &[u8], place: u32, words: Words) -> Refusal<'a>
-        requires within { place ≤ length source.now }
-        requires short { length source.now + 1 < 2 ^ 32 }
+    /// The program of this name is refused for a fault that has no place.
+    pub(crate) fn whole(name: &'a str, fault: ProgramFault) -> Refusal<'a>
         ensures status { status_of result ≡ Status.ProgramRefused }
-        ensures message { message_of result ≡ faulty name.now source.now place (fault_text words) }
+        ensures message { message_of result ≡ said_of name.now (fault_words fault) }
     {
-        let (line, column) = line_and_column(source, place);
-        Refusal::Fault {
-            name,
-            line,
-            column,
-            words,
+        let at = None;
+        Refusal::Program { name, fault, at }
+    }
+
+    /// The program of this name, of which this is the source, is refused for this fault.
+    pub(crate) fn of_program(name: &'a str, source: &[u8], fault: ProgramFault) -> Refusal<'a>
+        requires within { IfSome (fault_place fault) (λ place. place ≤ length source.now) }
+        requires short { IsShort source.now }
+        ensures status { status_of result ≡ Status.ProgramRefused }
+        ensures message { message_of result ≡ fault_message name.now source.now fault }
+    {
+        match fault.place() {
+            None => Refusal::whole(name, fault),
+            Some(place) => {
+                let at = Some(line_and_column(source, place));
+                Refusal::Program { name, fault, at }
+            }
         }
     }
 
@@ -68,9 +76,7 @@ impl<'a> Refusal<'a> {
     {
         match self {
             Refusal::Usage => Status::Usage,
-            Refusal::Program(_) => Status::ProgramRefused,
-            Refusal::Fault { .. } => Status::ProgramRefused,
-            Refusal::TooLong(_) => Status::ProgramRefused,
+            Refusal::Program { .. } => Status::ProgramRefused,
             Refusal::Suite(_) => Status::SuiteRefused,
             Refusal::Read(_) => Status::ReadFault,
             Refusal::Write => Status::WriteFault,
@@ -80,42 +86,43 @@ impl<'a> Refusal<'a> {
 
     /// The message, with its line feed.
     pub(crate) fn message(self) -> Message<'a>
-        ensures { result.before.now ++ result.name.now ++ place_text result.at ++ result.after.now ≡ message_of self.entry }
+        ensures { text_of result ≡ message_of self.entry }
     {
         match self {
-            Refusal::Usage => told(b"usage: f1x repair PROGRAM SUITE\n", "", b""),
-            Refusal::Program(name) => told(b"", name, b": unsupported\n"),
-            Refusal::Fault {
-                name,
-                line,
-                column,
-                words,
-            } => Message {
-                before: b"",
-                name: name.as_bytes(),
-                at: Some((line, column)),
-                after: words.line(),
-            },
-            Refusal::TooLong(name) => told(b"", name, b": too long\n"),
-            Refusal::Suite(name) => told(b"", name, b": bad suite\n"),
-            Refusal::Read(name) => told(b"f1x: cannot read ", name, b"\n"),
-            Refusal::Write => told(b"f1x: cannot write\n", "", b""),
-            Refusal::Memory => told(b"f1x: no memory\n", "", b""),
+            Refusal::Usage => own(b"usage: f1x repair PROGRAM SUITE", ""),
+            Refusal::Program { name, fault, at } => about(name, at, fault.words()),
+            Refusal::Suite(name) => about(name, None, "bad suite"),
+            Refusal::Read(name) => own(b"f1x: cannot read ", name),
+            Refusal::Write => own(b"f1x: cannot write", ""),
+            Refusal::Memory => own(b"f1x: no memory", ""),
         }
     }
 }
 
-// The message of these pieces, with no place.
-fn told<'a>(before: &'static [u8], name: &'a str, after: &'static [u8]) -> Message<'a>
-    ensures before { result.before.now ≡ before.now }
-    ensures name { result.name.now ≡ name.now }
-    ensures at { result.at ≡ None }
-    ensures after { result.after.now ≡ after.now }
+// These words are said of the file of this name, or of a line and a column in it.
+fn about<'a>(name: &'a str, at: Option<(u32, u32)>, words: &'static str) -> Message<'a>
+    ensures { text_of result ≡ faulty name.now at words.now }
 {
     Message {
-        before,
+        before: b"",
+        name: name.as_bytes(),
+        at,
+        between: b": ",
+        words: words.as_bytes(),
+        end: b"\n",
+    }
+}
+
+// These words, and a name after them, which may be empty.
+fn own<'a>(words: &'static [u8], name: &'a str) -> Message<'a>
+    ensures { text_of result ≡ words.now ++ name.now ++ codes "\n" }
+{
+    Message {
+        before: words,
         name: name.as_bytes(),
         at: None,
-        after,
+        between: b"",
+        words: b"",
+        end: b"\n",
     }
 }

@@ -1,23 +1,25 @@
-//! Writes the answer, or the message that tells why there is none.
+//! Writes the answer, or the message that says why there is none.
 ghost use Rattle.std.specs.Prelude.{◌≡◌, ◌+◌, ◌≤◌, ◌++◌, length, MatchResult, IsOk};
 ghost use Rattle.repair_cli.specs.Ends.{status_of_answer};
-ghost use Rattle.repair_cli.specs.Message.{place_text, number_text};
+ghost use Rattle.repair_cli.specs.Message.{place_text, number_text, text_of};
 ghost use Rattle.repair_cli.specs.Parts.{Reports, Writes};
 ghost use Rattle.repair_cli.specs.Refusal.{status_of, message_of};
-ghost use Rattle.repair_cli.specs.Sinks.{told, Appends, Breaks};
+ghost use Rattle.repair_cli.specs.Sinks.{seen, Appends, Breaks};
 
-use crate::answer::{Answer, Reply};
+use crate::answer::Reply;
 use crate::refusal::{Message, Refusal};
 use crate::status::Status;
 use fx_io::{Failed, Sink, write_whole};
 use itoa::Buffer;
+use repair_job::Answer;
 
 /// Writes the text of the answer, or where that fails the message of the failure, and answers the status.
 pub(crate) fn report<O: Sink, E: Sink>(reply: &Reply, out: &mut O, err: &mut E) -> Status
     ensures out_faults { O.faults out.old ≤ O.faults out.new }
     ensures err_faults { E.faults err.old ≤ E.faults err.new }
-    ensures reports { Reports (told (O.faults out.old) (O.faults out.new) (O.written out.old) (O.written out.new))
-        (told (E.faults err.old) (E.faults err.new) (E.written err.old) (E.written err.new)) reply.now.answer reply.now.text.items result }
+    ensures reports { let wrote = seen O.faults O.written out.old out.new in
+        let said = seen E.faults E.written err.old err.new in
+        Reports wrote said reply.now.answer reply.now.text.items result }
     ensures room { length reply.now.text.items ≤ O.room out.old → result ≡ status_of_answer reply.now.answer }
 {
     match write_whole(out, &reply.text) {
@@ -29,7 +31,8 @@ pub(crate) fn report<O: Sink, E: Sink>(reply: &Reply, out: &mut O, err: &mut E) 
 /// Writes the message, and answers the status of the refusal, or that the write failed.
 pub(crate) fn refuse<E: Sink>(refusal: Refusal, err: &mut E) -> Status
     ensures faults { E.faults err.old ≤ E.faults err.new }
-    ensures writes { Writes (told (E.faults err.old) (E.faults err.new) (E.written err.old) (E.written err.new)) (message_of refusal.entry) (status_of refusal.entry) result }
+    ensures writes { let wrote = seen E.faults E.written err.old err.new in
+        Writes wrote (message_of refusal.entry) (status_of refusal.entry) result }
     ensures room { length (message_of refusal.entry) ≤ E.room err.old → result ≡ status_of refusal.entry }
 {
     match write_message(err, refusal.message()) {
@@ -38,27 +41,26 @@ pub(crate) fn refuse<E: Sink>(refusal: Refusal, err: &mut E) -> Status
     }
 }
 
-// Writes the pieces of the message, one behind the other.
+// Writes the pieces of the message, one after another.
 fn write_message<S: Sink>(sink: &mut S, message: Message) -> Result<(), Failed>
     ensures faults { S.faults sink.old ≤ S.faults sink.new }
-    ensures written { let wrote = told (S.faults sink.old) (S.faults sink.new) (S.written sink.old) (S.written sink.new) in
-        let text = message.entry.before.now ++ message.entry.name.now ++ place_text message.entry.at ++ message.entry.after.now in
+    ensures written { let wrote = seen S.faults S.written sink.old sink.new in
+        let text = text_of message.entry in
         MatchResult result (λ _. Appends wrote text) (λ _. Breaks wrote text) }
-    ensures room { let text = message.entry.before.now ++ message.entry.name.now ++ place_text message.entry.at ++ message.entry.after.now in
-        length text ≤ S.room sink.old → IsOk result }
+    ensures room { length (text_of message.entry) ≤ S.room sink.old → IsOk result }
 {
     write_both(sink, message.before, message.name)?;
     write_place(sink, message.at)?;
-    write_whole(sink, message.after)?;
+    write_both(sink, message.between, message.words)?;
+    write_whole(sink, message.end)?;
     Ok(())
 }
 
-// Writes the line and the column between colons, if there are any.
+// Writes the line and the column, each after a colon, if there is a place.
 fn write_place<S: Sink>(sink: &mut S, at: Option<(u32, u32)>) -> Result<(), Failed>
     ensures faults { S.faults sink.old ≤ S.faults sink.new }
-    ensures written { let wrote = told (S.faults sink.old) (S.faults sink.new) (S.written sink.old) (S.written sink.new) in
-        let text = place_text at in
-        MatchResult result (λ _. Appends wrote text) (λ _. Breaks wrote text) }
+    ensures written { let wrote = seen S.faults S.written sink.old sink.new in
+        MatchResult result (λ _. Appends wrote (place_text at)) (λ _. Breaks wrote (place_text at)) }
     ensures room { length (place_text at) ≤ S.room sink.old →
         IsOk result × (S.room sink.new + length (place_text at) ≡ S.room sink.old) }
 {
@@ -67,16 +69,14 @@ fn write_place<S: Sink>(sink: &mut S, at: Option<(u32, u32)>) -> Result<(), Fail
     };
     write_number(sink, line)?;
     write_number(sink, column)?;
-    write_whole(sink, b": ")?;
     Ok(())
 }
 
-// Writes a colon, and the number behind it.
+// Writes a colon, and the number after it.
 fn write_number<S: Sink>(sink: &mut S, n: u32) -> Result<(), Failed>
     ensures faults { S.faults sink.old ≤ S.faults sink.new }
-    ensures written { let wrote = told (S.faults sink.old) (S.faults sink.new) (S.written sink.old) (S.written sink.new) in
-        let text = number_text n in
-        MatchResult result (λ _. Appends wrote text) (λ _. Breaks wrote text) }
+    ensures written { let wrote = seen S.faults S.written sink.old sink.new in
+        MatchResult result (λ _. Appends wrote (number_text n)) (λ _. Breaks wrote (number_text n)) }
     ensures room { length (number_text n) ≤ S.room sink.old →
         IsOk result × (S.room sink.new + length (number_text n) ≡ S.room sink.old) }
 {
@@ -84,10 +84,10 @@ fn write_number<S: Sink>(sink: &mut S, n: u32) -> Result<(), Failed>
     write_both(sink, b":", buffer.format(n).as_bytes())
 }
 
-// Writes the one piece, and the other behind it.
+// Writes the one piece, and the other after it.
 fn write_both<S: Sink>(sink: &mut S, first: &[u8], second: &[u8]) -> Result<(), Failed>
     ensures faults { S.faults sink.old ≤ S.faults sink.new }
-    ensures written { let wrote = told (S.faults sink.old) (S.faults sink.new) (S.written sink.old) (S.written sink.new) in
+    ensures written { let wrote = seen S.faults S.written sink.old sink.new in
         let text = first.now ++ second.now in
         MatchResult result (λ _. Appends wrote text) (λ _. Breaks wrote text) }
     ensures room { length (first.now ++ second.now) ≤ S.room sink.old →

@@ -3,9 +3,8 @@ ghost use Rattle.std.specs.Prelude.{◌≡◌, ◌≤◌, IfErr, MatchResult};
 ghost use Rattle.repair_cli.specs.Complete.{HasFiles, HasRoom, OnRead, IsFaultless, longest};
 ghost use Rattle.repair_cli.specs.Ends.{Ends, IsAnswer};
 ghost use Rattle.repair_cli.specs.Refusal.{status_of, message_of};
-ghost use Rattle.repair_cli.specs.Sinks.{told};
+ghost use Rattle.repair_cli.specs.Sinks.{seen};
 ghost use Rattle.repair_cli.specs.Source.{source, Cause};
-ghost use Rattle.repair_cli.specs.Words.{words_of, names_in};
 
 use crate::answer::{Reply, settled};
 use crate::gather::gathered;
@@ -15,7 +14,7 @@ use crate::status::Status;
 use fx_io::{Files, Sink};
 use std::alloc::Global;
 
-/// Repairs the program that the words name, over the tests of the suite that they name. The words are those behind
+/// Repairs the program that the words name, over the tests of the suite that they name. The words are those after
 /// the program's own name: `repair`, then the name of a C source, then the name of a JSON suite.
 ///
 /// The answer goes to `out`: the patched source, or a line that there is nothing to repair or that no patch repairs
@@ -32,10 +31,13 @@ pub fn run_alone<F: Files, O: Sink, E: Sink>(
     ensures faults { F.faults files.old ≤ F.faults files.new }
     ensures out_faults { O.faults out.old ≤ O.faults out.new }
     ensures err_faults { E.faults err.old ≤ E.faults err.new }
-    ensures ends { Ends (source (words_of words.now) (F.held files.old) (F.faults files.old) (F.faults files.new))
-        (told (O.faults out.old) (O.faults out.new) (O.written out.old) (O.written out.new))
-        (told (E.faults err.old) (E.faults err.new) (E.written err.old) (E.written err.new)) result }
-    ensures complete { F.sure files.old → HasFiles (F.held files.old) (names_in (words_of words.now)) → HasRoom (source (words_of words.now) (F.held files.old) (F.faults files.old) (F.faults files.new)) (O.room out.old) → longest (names_in (words_of words.now)) ≤ E.room err.old → IsFaultless result }
+    ensures ends { let given = source F.held F.faults words.now files.old files.new in
+        let wrote = seen O.faults O.written out.old out.new in
+        let said = seen E.faults E.written err.old err.new in
+        Ends given wrote said result }
+    ensures complete { let given = source F.held F.faults words.now files.old files.new in
+        F.sure files.old → HasFiles given →
+        HasRoom given (O.room out.old) → longest given ≤ E.room err.old → IsFaultless result }
 {
     match answered(alloc, words, files) {
         Ok(reply) => report(&reply, out, err),
@@ -51,24 +53,18 @@ fn answered<'a, F: Files>(
 ) -> Result<Reply, Refusal<'a>>
     ensures held { F.held files.new ≡ F.held files.old }
     ensures faults { F.faults files.old ≤ F.faults files.new }
-    ensures answered { MatchResult result
-        (λ reply. IsAnswer (source (words_of words.now) (F.held files.old) (F.faults files.old) (F.faults files.new)) reply.answer reply.text.items)
-        (λ refusal. Cause (source (words_of words.now) (F.held files.old) (F.faults files.old) (F.faults files.new)) (status_of refusal) (message_of refusal)) }
-    ensures sure { F.sure files.old → HasFiles (F.held files.old) (names_in (words_of words.now)) → IfErr result (λ refusal. OnRead refusal ⊥) }
+    ensures answered { let given = source F.held F.faults words.now files.old files.new in
+        MatchResult result
+        (λ reply. IsAnswer given reply.answer reply.text.items)
+        (λ refusal. Cause given (status_of refusal) (message_of refusal)) }
+    ensures sure { let given = source F.held F.faults words.now files.old files.new in
+        F.sure files.old → HasFiles given → IfErr result (λ refusal. OnRead refusal ⊥) }
 {
     let job = match gathered(alloc, words, files) {
         Ok(job) => job,
         Err(refusal) => return Err(refusal),
     };
-    let subject = &job.subject;
-    let suite = &job.suite;
-    match settled(
-        alloc,
-        &subject.source,
-        &subject.program,
-        &suite.tests,
-        suite.limit,
-    ) {
+    match settled(alloc, &job) {
         Ok(reply) => Ok(reply),
         Err(_) => Err(Refusal::Memory),
     }

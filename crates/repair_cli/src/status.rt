@@ -11,7 +11,7 @@ pub enum Status {
     Nothing,
     /// The program passes every test as it is.
     Sound,
-    /// The words of the command line aren't lawful.
+    /// The words are no command.
     Usage,
     /// The program is too long, or isn't of the supported form.
     ProgramRefused,

@@ -1,608 +1,117 @@
-//! Whole calls over fakes: how each ends, and what it leaves on both sinks.
+//! The messages for faults at places of a program.
 
-mod faults;
-mod refusals;
-
-use crate::run_alone;
-use fx_io::{MemFiles, MemSink};
-use std::alloc::{AllocError, Global};
+use crate::fault::ProgramFault;
+use crate::position::line_and_column;
+use crate::refusal::Refusal;
+use crate::report::refuse;
+use c_lex::LexFault;
+use c_parse::ParseFault;
+use fx_io::MemSink;
+use std::alloc::Global;
 use std::process::Abort;
 use std::test::Fail;
 
-/// The lawful words of most calls.
-const LINE: &str = "repair p.c s.json";
+/// A source, and the line and the column of a place in it.
+const PLACES: [(&str, u32, (u32, u32)); 9] = [
+    ("", 0, (1, 1)),
+    ("int", 0, (1, 1)),
+    ("int", 3, (1, 4)),
+    ("ab\ncd\n", 2, (1, 3)),
+    ("ab\ncd\n", 3, (2, 1)),
+    ("ab\ncd\n", 5, (2, 3)),
+    ("ab\ncd\n", 6, (3, 1)),
+    ("\n\n\n", 2, (3, 1)),
+    ("a\r\n\tb", 4, (2, 2)),
+];
 
-/// A program that gives the byte behind the one that it gets.
-const NEXT: &str = "int main(void) { putchar(getchar() + 1); return 0; }";
+/// What is wrong, and what is said of it.
+const FAULTS: [(ProgramFault, &str); 13] = [
+    (
+        ProgramFault::Lex(LexFault::StrayByte(5)),
+        "p.c:2:3: stray byte\n",
+    ),
+    (
+        ProgramFault::Lex(LexFault::OpenComment(5)),
+        "p.c:2:3: comment is not closed\n",
+    ),
+    (
+        ProgramFault::Lex(LexFault::OpenLiteral(5)),
+        "p.c:2:3: literal is not closed\n",
+    ),
+    (
+        ProgramFault::Lex(LexFault::BadConstant(5)),
+        "p.c:2:3: bad constant\n",
+    ),
+    (
+        ProgramFault::Lex(LexFault::ConstantTooLarge(5)),
+        "p.c:2:3: constant too large\n",
+    ),
+    (
+        ProgramFault::Lex(LexFault::DirectiveLate(5)),
+        "p.c:2:3: directive after the first declaration\n",
+    ),
+    (
+        ProgramFault::Lex(LexFault::DirectiveUnknown(5)),
+        "p.c:2:3: unknown directive\n",
+    ),
+    (
+        ProgramFault::Lex(LexFault::MacroTwice(5)),
+        "p.c:2:3: macro defined twice\n",
+    ),
+    (
+        ProgramFault::Lex(LexFault::Digraph(5)),
+        "p.c:2:3: digraph\n",
+    ),
+    (
+        ProgramFault::Lex(LexFault::LineSplice(5)),
+        "p.c:2:3: line splice\n",
+    ),
+    (
+        ProgramFault::Lex(LexFault::Trigraph(5)),
+        "p.c:2:3: trigraph\n",
+    ),
+    (
+        ProgramFault::Parse(ParseFault::Unexpected(5)),
+        "p.c:2:3: unexpected token\n",
+    ),
+    (
+        ProgramFault::Parse(ParseFault::TooDeep(5)),
+        "p.c:2:3: nested too deep\n",
+    ),
+];
 
-/// A program with a name that it doesn't declare.
-const UNDECLARED: &str = "int main(void) { a = 1; }";
-
-/// A suite with no tests, which every program passes.
-const NO_TESTS: &str = r#"{"tests":[]}"#;
-
-/// A suite that `NEXT` passes.
-const PASSED: &str = r#"{"tests":[{"input":"A","output":"B"},{"input":"h","output":"i"}]}"#;
-
-/// A suite of which `NEXT` fails the last test alone.
-const LAST_FAILS: &str = r#"{"tests":[{"input":"A","output":"B"},{"input":"h","output":"h"}]}"#;
-
-/// A program that writes the smaller of two bytes.
-const LESSER: &str = "int main(void) {
-    int a;
-    int b;
-    a = getchar();
-    b = getchar();
-    if (a < b) {
-        putchar(a);
-    } else {
-        putchar(b);
-    }
-    return 0;
-}
-";
-
-/// A suite for the greater of two bytes.
-const GREATER: &str = r#"{"tests":[{"input":"12","output":"2"},{"input":"53","output":"5"}]}"#;
-
-/// The program, repaired for that suite.
-const REPAIRED: &str = "int main(void) {
-    int a;
-    int b;
-    a = getchar();
-    b = getchar();
-    if ((a > b)) {
-        putchar(a);
-    } else {
-        putchar(b);
-    }
-    return 0;
-}
-";
-
-/// A program that writes what it reads.
-const ECHO: &str =
-    "int main(void) { int c; c = getchar(); while (c >= 0) { putchar(c); c = getchar(); } return 0; }";
-
-/// A program that does nothing.
-const IDLE: &str = "int main(void) { return 0; }";
-
-/// The number of no call.
-const NEVER: u64 = 1_000_000;
-
-/// The bytes of the files `p.c` and `s.json`.
-#[derive(Clone, Copy)]
-struct Bytes<'a> {
-    program: &'a [u8],
-    suite: &'a [u8],
-}
-
-/// The calls that fail: one of the files, and one write to each sink, by its number.
-#[derive(Clone, Copy)]
-struct Failing {
-    files: u64,
-    out: u64,
-    err: u64,
-}
-
-/// No call fails.
-const SURE: Failing = Failing {
-    files: NEVER,
-    out: NEVER,
-    err: NEVER,
-};
-
-/// How a call must end: its number, and what it leaves on both sinks.
-#[derive(Clone, Copy)]
-struct Want<'a> {
-    number: u8,
-    out: &'a str,
-    err: &'a str,
-}
-
-// The words of this line.
-fn words_of(alloc: Global, line: &str) -> Result<Vec<String>, AllocError> {
-    let mut words = Vec::new(alloc);
-    for word in line.split(' ') {
-        words.push(String::from_str(alloc, word)?)?;
-    }
-    Ok(words)
-}
-
-// Calls with the words of this line. A read gives at most 4,096 bytes, and a write takes at most ten.
-fn call(
-    rt: &impl Abort,
-    alloc: Global,
-    line: &str,
-    bytes: Bytes,
-    failing: Failing,
-    want: Want,
-) -> Result<(), Fail> {
-    let words = words_of(alloc, line)?;
-    let mut held = Vec::new(alloc);
-    held.push((
-        String::from_str(alloc, "p.c")?,
-        bytes.program.to_vec(alloc)?,
-    ))?;
-    held.push((
-        String::from_str(alloc, "s.json")?,
-        bytes.suite.to_vec(alloc)?,
-    ))?;
-    let mut files = MemFiles::new(held, [failing.files].to_vec(alloc)?, 4096);
-    let mut out = MemSink::new(alloc, 400, [failing.out].to_vec(alloc)?, 10)?;
-    let mut err = MemSink::new(alloc, 100, [failing.err].to_vec(alloc)?, 10)?;
-    let status = run_alone(alloc, &words, &mut files, &mut out, &mut err);
-    assert_eq!(rt; status.number(), want.number, "{line}");
-    assert_eq!(rt; out.written(), want.out.as_bytes(), "{line}");
-    assert_eq!(rt; err.written(), want.err.as_bytes(), "{line}");
+// Writes the message for the refusal, at most ten bytes at a time.
+fn refused(rt: &impl Abort, alloc: Global, refusal: Refusal, want: &str) -> Result<(), Fail> {
+    let mut err = MemSink::new(alloc, 100, [1_000_000].to_vec(alloc)?, 10)?;
+    let status = refuse(refusal, &mut err);
+    assert_eq!(rt; status.number(), 4, "{want}");
+    assert_eq!(rt; err.written(), want.as_bytes(), "{want}");
     Ok(())
 }
 
-const SOUND: &str = "nothing to repair\n";
+#[test]
+fn places_have_lines_and_columns(rt: HostRuntime) -> Result<(), Fail> {
+    for (source, place, want) in PLACES {
+        let source = source.as_bytes();
+        assert!(rt; place as usize <= source.len() && source.len() < 100);
+        assert_eq!(rt; line_and_column(source, place), want);
+    }
+    Ok(())
+}
 
-const USAGE: &str = "usage: f1x repair PROGRAM SUITE\n";
-
-const REFUSED: &str = "p.c: unsupported\n";
-
-const BAD_SUITE: &str = "s.json: bad suite\n";
-
-const NO_A: &str = "f1x: cannot read a\n";
-
-const NO_PROGRAM: &str = "f1x: cannot read p.c\n";
-
-const NO_SUITE: &str = "f1x: cannot read s.json\n";
-
-const NO_WRITE: &str = "f1x: cannot write\n";
-
-/// A line of words, the bytes of both files, and how the call must end where no call fails.
-type Row = (
-    &'static str,
-    &'static str,
-    &'static str,
-    u8,
-    &'static str,
-    &'static str,
-);
-
-/// Lines of words.
-const LINES: [Row; 14] = [
-    ("", NEXT, PASSED, 3, "", USAGE),
-    ("repair", NEXT, PASSED, 3, "", USAGE),
-    ("repair p.c", NEXT, PASSED, 3, "", USAGE),
-    ("repair p.c s.json s.json", NEXT, PASSED, 3, "", USAGE),
-    ("repair  s.json", NEXT, PASSED, 3, "", USAGE),
-    ("repair p.c ", NEXT, PASSED, 3, "", USAGE),
-    ("repair -p.c s.json", NEXT, PASSED, 3, "", USAGE),
-    ("repair p.c -", NEXT, PASSED, 3, "", USAGE),
-    ("mend p.c s.json", NEXT, PASSED, 3, "", USAGE),
-    ("repair a s.json", NEXT, PASSED, 6, "", NO_A),
-    ("repair p.c b", NEXT, PASSED, 6, "", "f1x: cannot read b\n"),
-    ("repair a b", NEXT, PASSED, 6, "", NO_A),
-    (
-        "repair p.c b",
-        "",
-        PASSED,
-        4,
-        "",
-        "p.c:1:1: unexpected token\n",
-    ),
-    ("repair p.c p.c", NEXT, PASSED, 5, "", "p.c: bad suite\n"),
-];
-
-/// Programs and suites.
-const FILES: [Row; 17] = [
-    (LINE, "@", "[", 4, "", "p.c:1:1: stray byte\n"),
-    (LINE, UNDECLARED, PASSED, 4, "", REFUSED),
-    (LINE, NEXT, "", 5, "", BAD_SUITE),
-    (LINE, NEXT, "[", 5, "", BAD_SUITE),
-    (
-        LINE,
-        "int main(void) { for (;;) {} }",
-        PASSED,
-        4,
-        "",
-        REFUSED,
-    ),
-    (
-        LINE,
-        "int main(void) { putchar(",
-        PASSED,
-        4,
-        "",
-        "p.c:1:26: unexpected token\n",
-    ),
-    (LINE, IDLE, "{}", 5, "", BAD_SUITE),
-    (LINE, IDLE, r#"{"tests":[{"outp"#, 5, "", BAD_SUITE),
-    (
-        LINE,
-        IDLE,
-        r#"{"tests":[{"output":"","status":0}]}"#,
-        5,
-        "",
-        BAD_SUITE,
-    ),
-    (
-        LINE,
-        IDLE,
-        r#"{"tests":[{"output":"","name":""}]}"#,
-        5,
-        "",
-        BAD_SUITE,
-    ),
-    (LINE, IDLE, r#"{"limit":1,"tests":[]}"#, 5, "", BAD_SUITE),
-    (
-        LINE,
-        IDLE,
-        r#"{"tests":[{"output":"x","output":""}]}"#,
-        2,
-        SOUND,
-        "",
-    ),
-    (
-        LINE,
-        "int main(void) { return 256; }",
-        r#"{"tests":[{"output":""}]}"#,
-        2,
-        SOUND,
-        "",
-    ),
-    (
-        LINE,
-        "int main(void) { return 1; }",
-        r#"{"tests":[{"output":""}]}"#,
-        1,
-        "none\n",
-        "",
-    ),
-    (LINE, NEXT, NO_TESTS, 2, SOUND, ""),
-    (LINE, NEXT, PASSED, 2, SOUND, ""),
-    (LINE, NEXT, LAST_FAILS, 1, "none\n", ""),
-];
-
-// Calls as the row says, and looks how it ends.
-fn judge(rt: &impl Abort, alloc: Global, row: Row) -> Result<(), Fail> {
-    let (line, program, suite, number, out, err) = row;
-    let bytes = Bytes {
-        program: program.as_bytes(),
-        suite: suite.as_bytes(),
+#[test]
+fn faults_have_messages_with_their_places(rt: HostRuntime) -> Result<(), Fail> {
+    let alloc = rt.alloc();
+    for (fault, want) in FAULTS {
+        let refusal = Refusal::of_program("p.c", b"ab\ncd\n", fault);
+        refused(&rt, alloc, refusal, want)?;
+    }
+    let long = Refusal::whole("p.c", ProgramFault::TooLong);
+    refused(&rt, alloc, long, "p.c: too long\n")?;
+    let far = Refusal::Program {
+        name: "",
+        fault: ProgramFault::Parse(ParseFault::TooDeep(0)),
+        at: Some((65_537, 4_294_967_295)),
     };
-    call(rt, alloc, line, bytes, SURE, Want { number, out, err })
-}
-
-#[test]
-fn judges_words(rt: HostRuntime) -> Result<(), Fail> {
-    for row in LINES {
-        judge(&rt, rt.alloc(), row)?;
-    }
-    Ok(())
-}
-
-#[test]
-fn judges_files(rt: HostRuntime) -> Result<(), Fail> {
-    for row in FILES {
-        judge(&rt, rt.alloc(), row)?;
-    }
-    Ok(())
-}
-
-// This text, and spaces behind it up to this length.
-fn padded(alloc: Global, text: &str, length: usize) -> Result<Vec<u8>, AllocError> {
-    let mut bytes = text.as_bytes().to_vec(alloc)?;
-    bytes.resize(length, b' ')?;
-    Ok(bytes)
-}
-
-#[test]
-fn judges_lengths(rt: HostRuntime) -> Result<(), Fail> {
-    for (program_length, suite_length, number, out, err) in [
-        (65_536, 4_194_304, 2, "nothing to repair\n", ""),
-        (65_536, 4_194_305, 5, "", BAD_SUITE),
-        (65_537, 100, 4, "", "p.c: too long\n"),
-    ] {
-        let program = padded(rt.alloc(), NEXT, program_length)?;
-        let suite = padded(rt.alloc(), PASSED, suite_length)?;
-        let bytes = Bytes {
-            program: &program,
-            suite: &suite,
-        };
-        let want = Want { number, out, err };
-        call(&rt, rt.alloc(), LINE, bytes, SURE, want)?;
-    }
-    Ok(())
-}
-
-/// The words, the failing calls, and how the call must end. The calls of the files are an opening, a read of the bytes and
-/// a read of the end, for each file.
-const FAILED: [(&str, u64, u64, u64, u8, &str, &str); 21] = [
-    (LINE, 0, NEVER, NEVER, 6, "", NO_PROGRAM),
-    (LINE, 1, NEVER, NEVER, 6, "", NO_PROGRAM),
-    (LINE, 2, NEVER, NEVER, 6, "", NO_PROGRAM),
-    (LINE, 3, NEVER, NEVER, 6, "", NO_SUITE),
-    (LINE, 4, NEVER, NEVER, 6, "", NO_SUITE),
-    (LINE, 5, NEVER, NEVER, 6, "", NO_SUITE),
-    (LINE, 6, NEVER, NEVER, 2, SOUND, ""),
-    (LINE, NEVER, 0, NEVER, 7, "", NO_WRITE),
-    (LINE, NEVER, 1, NEVER, 7, "nothing to", NO_WRITE),
-    (LINE, NEVER, 2, 0, 2, SOUND, ""),
-    (LINE, NEVER, 0, 0, 7, "", ""),
-    (LINE, NEVER, 1, 1, 7, "nothing to", "f1x: canno"),
-    ("repair", NEVER, 0, 0, 7, "", ""),
-    ("repair", NEVER, 0, 1, 7, "", "usage: f1x"),
-    ("repair s.json p.c", NEVER, 0, 1, 7, "", "s.json"),
-    ("repair p.c p.c", NEVER, 0, 1, 7, "", "p.c"),
-    (LINE, 0, 0, 0, 7, "", ""),
-    (LINE, 0, 0, 1, 7, "", "f1x: canno"),
-    (LINE, 0, 0, 2, 7, "", "f1x: cannot read "),
-    (LINE, 0, 0, 3, 7, "", "f1x: cannot read p.c"),
-    (LINE, 0, 0, 4, 6, "", NO_PROGRAM),
-];
-
-#[test]
-fn tells_failed_calls(rt: HostRuntime) -> Result<(), Fail> {
-    for (line, files, out, err, number, written, told) in FAILED {
-        let bytes = Bytes {
-            program: NEXT.as_bytes(),
-            suite: PASSED.as_bytes(),
-        };
-        let failing = Failing { files, out, err };
-        let want = Want {
-            number,
-            out: written,
-            err: told,
-        };
-        call(&rt, rt.alloc(), line, bytes, failing, want)?;
-    }
-    Ok(())
-}
-
-// A text of which one piece stands so many times before the middle, and another as many times behind it.
-fn nested(
-    alloc: Global,
-    head: &str,
-    pieces: (&str, &str, &str),
-    tail: &str,
-    count: usize,
-) -> Result<Vec<u8>, AllocError> {
-    let mut bytes = head.as_bytes().to_vec(alloc)?;
-    for _ in 0..count {
-        bytes.extend_from_slice(pieces.0.as_bytes())?;
-    }
-    bytes.extend_from_slice(pieces.1.as_bytes())?;
-    for _ in 0..count {
-        bytes.extend_from_slice(pieces.2.as_bytes())?;
-    }
-    bytes.extend_from_slice(tail.as_bytes())?;
-    Ok(bytes)
-}
-
-/// Sources at a limit and beyond it: the repeated pieces, how often, and the message, where there is one.
-const SOURCES: [(&str, &str, &str, usize, &str); 4] = [
-    ("if (a < a) {", "a = 1;", "}", 31, ""),
-    (
-        "if (a < a) {",
-        "a = a + 1;",
-        "}",
-        31,
-        "p.c:1:403: nested too deep\n",
-    ),
-    ("a = 1;", "", "", 2048, ""),
-    ("a = 1;", "putchar(1);", "", 2048, REFUSED),
-];
-
-/// Suites at a limit and beyond it: the head, the piece, how often, the tail, and how the call must end.
-const SUITES: [(&str, &str, usize, &str, u8); 4] = [
-    (
-        r#"{"tests":[{"output":""}"#,
-        r#",{"output":""}"#,
-        255,
-        "]}",
-        2,
-    ),
-    (
-        r#"{"tests":[{"output":""}"#,
-        r#",{"output":""}"#,
-        256,
-        "]}",
-        5,
-    ),
-    (
-        r#"{"tests":[{"output":"","input":""#,
-        "x",
-        65_536,
-        r#""}]}"#,
-        2,
-    ),
-    (
-        r#"{"tests":[{"output":"","input":""#,
-        "x",
-        65_537,
-        r#""}]}"#,
-        5,
-    ),
-];
-
-// How a call ends that accepts both files, or refuses the suite.
-fn ends(number: u8) -> Want<'static> {
-    match number {
-        2 => Want {
-            number,
-            out: SOUND,
-            err: "",
-        },
-        _ => Want {
-            number,
-            out: "",
-            err: BAD_SUITE,
-        },
-    }
-}
-
-// How a call ends that accepts both files, or refuses the program with this message.
-fn judged(message: &'static str) -> Want<'static> {
-    if message.is_empty() {
-        return ends(2);
-    }
-    Want {
-        number: 4,
-        out: "",
-        err: message,
-    }
-}
-
-#[test]
-fn keeps_its_limits(rt: HostRuntime) -> Result<(), Fail> {
-    for (opening, middle, closing, count, message) in SOURCES {
-        let program = nested(
-            rt.alloc(),
-            "int main(void) { int a; ",
-            (opening, middle, closing),
-            "}",
-            count,
-        )?;
-        let bytes = Bytes {
-            program: &program,
-            suite: NO_TESTS.as_bytes(),
-        };
-        call(&rt, rt.alloc(), LINE, bytes, SURE, judged(message))?;
-    }
-    for (head, piece, count, tail, number) in SUITES {
-        let suite = nested(rt.alloc(), head, (piece, "", ""), tail, count)?;
-        let bytes = Bytes {
-            program: IDLE.as_bytes(),
-            suite: &suite,
-        };
-        call(&rt, rt.alloc(), LINE, bytes, SURE, ends(number))?;
-    }
-    let bytes = Bytes {
-        program: IDLE.as_bytes(),
-        suite: b"{\"tests\":[{\"output\":\"\xff\"}]}",
-    };
-    call(&rt, rt.alloc(), LINE, bytes, SURE, ends(5))
-}
-
-// Escapes of characters whose UTF-8 text has each byte that such a text can have.
-fn escapes(alloc: Global) -> Result<String, AllocError> {
-    let mut text = String::new(alloc);
-    for code in 0..0xc0u32 {
-        write!(text, "\\u{code:04x}")?;
-    }
-    for lead in 3..32u32 {
-        let code = lead * 64;
-        write!(text, "\\u{code:04x}")?;
-    }
-    for lead in 1..16u32 {
-        let code = lead * 4096;
-        write!(text, "\\u{code:04x}")?;
-    }
-    text.push_str(r"\u0800\ud800\udc00\ud8c0\udc00\ud9c0\udc00\udac0\udc00\udbc0\udc00")?;
-    Ok(text)
-}
-
-#[test]
-fn passes_every_byte(rt: HostRuntime) -> Result<(), Fail> {
-    let text = escapes(rt.alloc())?;
-    let suite = format!(in rt.alloc();
-        "{{\"tests\":[{{\"input\":\"{text}\",\"output\":\"{text}\"}}]}}"
-    )?;
-    let bytes = Bytes {
-        program: ECHO.as_bytes(),
-        suite: suite.as_bytes(),
-    };
-    call(&rt, rt.alloc(), LINE, bytes, SURE, ends(2))
-}
-
-#[test]
-fn repairs(rt: HostRuntime) -> Result<(), Fail> {
-    let none = "none\n";
-    let sound = "nothing to repair\n";
-    for (program, suite, number, out) in [
-        (LESSER, GREATER, 0, REPAIRED),
-        (
-            LESSER,
-            r#"{"tests":[{"input":"12","output":"1"}]}"#,
-            2,
-            sound,
-        ),
-        (
-            LESSER,
-            r#"{"tests":[{"input":"12","output":"1"},{"input":"12","output":"2"}]}"#,
-            1,
-            none,
-        ),
-        // A condition that reads has no patch.
-        (
-            "int main(void) { if (getchar() < 97) { putchar(121); } return 0; }",
-            r#"{"tests":[{"input":"b","output":"y"}]}"#,
-            1,
-            none,
-        ),
-        // The one repair is the last patch of the second condition.
-        (
-            "int main(void) { int a; a = getchar(); if (a == 48) { putchar(48); } if (a < 53) { putchar(53); } return 0; }",
-            r#"{"tests":[{"input":"5","output":"5"},{"input":"6","output":"5"},{"input":"0","output":"0"}]}"#,
-            0,
-            "int main(void) { int a; a = getchar(); if (a == 48) { putchar(48); } if ((a >= 53)) { putchar(53); } return 0; }",
-        ),
-        // A condition inside another is repaired.
-        (
-            "int main(void) { int a; int b; a = getchar(); b = getchar(); if (a < b) { if (a == 48) { putchar(b); } } else { putchar(a); } return 0; }",
-            r#"{"tests":[{"input":"12","output":"2"},{"input":"01","output":""},{"input":"/1","output":""},{"input":"21","output":"2"}]}"#,
-            0,
-            "int main(void) { int a; int b; a = getchar(); b = getchar(); if (a < b) { if ((a > 48)) { putchar(b); } } else { putchar(a); } return 0; }",
-        ),
-        // Of two repairs the first is taken.
-        (
-            "int main(void) { int i; int n; i = 0; n = getchar() - 48; while (i <= n) { putchar(42); i = i + 1; } return 0; }",
-            r#"{"tests":[{"input":"3","output":"***"},{"input":"0","output":""}]}"#,
-            0,
-            "int main(void) { int i; int n; i = 0; n = getchar() - 48; while ((i != n)) { putchar(42); i = i + 1; } return 0; }",
-        ),
-        // A patched program that runs too long passes no test.
-        (
-            "int main(void) { int i; int n; i = 0; n = getchar() - 48; while (i <= n) { putchar(42); i = i + 1; } return 0; }",
-            r#"{"tests":[{"input":"3","output":"***"},{"input":"/","output":""}]}"#,
-            0,
-            "int main(void) { int i; int n; i = 0; n = getchar() - 48; while ((i < n)) { putchar(42); i = i + 1; } return 0; }",
-        ),
-    ] {
-        let want = Want {
-            number,
-            out,
-            err: "",
-        };
-        let bytes = Bytes {
-            program: program.as_bytes(),
-            suite: suite.as_bytes(),
-        };
-        call(&rt, rt.alloc(), LINE, bytes, SURE, want)?;
-    }
-    Ok(())
-}
-
-#[test]
-fn tells_broken_repairs(rt: HostRuntime) -> Result<(), Fail> {
-    let no_write = "f1x: cannot write\n";
-    for (out, err, number, written, told) in [
-        (0, NEVER, 7, "", no_write),
-        (1, NEVER, 7, "int main(v", no_write),
-        (1, 1, 7, "int main(v", "f1x: canno"),
-        (NEVER, 0, 0, REPAIRED, ""),
-    ] {
-        let failing = Failing {
-            files: NEVER,
-            out,
-            err,
-        };
-        let want = Want {
-            number,
-            out: written,
-            err: told,
-        };
-        let bytes = Bytes {
-            program: LESSER.as_bytes(),
-            suite: GREATER.as_bytes(),
-        };
-        call(&rt, rt.alloc(), LINE, bytes, failing, want)?;
-    }
-    Ok(())
+    refused(&rt, alloc, far, ":65537:4294967295: nested too deep\n")
 }

@@ -1,16 +1,52 @@
-//! The words of the command line.
+//! The words of the command line: a command with its options.
 ghost use Rattle.std.specs.Prelude.{◌≡◌, option_map};
-ghost use Rattle.repair_cli.specs.Words.{names_in, words_of, is_name as is_lawful_name};
+ghost use Rattle.repair_cli.specs.Words.{command_in, command_of as seen_command, words_of, is_name as is_valid_name};
 
-/// The names of the program and the suite, where the words are `repair` and two names.
-pub(crate) fn names_of(words: &[String]) -> Option<(&str, &str)>
-    ensures { option_map (λ names. (names.0.now, names.1.now)) result ≡ names_in (words_of words.now) }
+use crate::limits::DEFAULT_PATCHES;
+
+/// What may be said of a repair.
+#[derive(Clone, Copy)]
+pub(crate) struct Options {
+    /// How many units each test may take; it goes before what the suite says.
+    pub(crate) limit: Option<u64>,
+    /// How many patches are tried at most.
+    pub(crate) patches: u32,
+}
+
+/// What is asked for: the repair of the program of this name over the suite of this name.
+#[derive(Clone, Copy)]
+pub(crate) struct Asked<'a> {
+    pub(crate) program: &'a str,
+    pub(crate) suite: &'a str,
+    pub(crate) options: Options,
+}
+
+/// A command.
+#[derive(Clone, Copy)]
+pub(crate) enum Command<'a> {
+    /// `repair PROGRAM SUITE`.
+    Repair(Asked<'a>),
+}
+
+/// Nothing is said.
+const NO_OPTIONS: Options = Options {
+    limit: None,
+    patches: DEFAULT_PATCHES,
+};
+
+/// The command that the words are, where they are `repair` and two names.
+pub(crate) fn command_of(words: &[String]) -> Option<Command<'_>>
+    ensures { option_map seen_command result ≡ command_in (words_of words.now) }
 {
-    let [command, program, suite] = words else {
+    let [word, program, suite] = words else {
         return None;
     };
-    if command.as_str() == "repair" && is_name(program.as_bytes()) && is_name(suite.as_bytes()) {
-        Some((program.as_str(), suite.as_str()))
+    if word.as_str() == "repair" && is_name(program.as_bytes()) && is_name(suite.as_bytes()) {
+        Some(Command::Repair(Asked {
+            program: program.as_str(),
+            suite: suite.as_str(),
+            options: NO_OPTIONS,
+        }))
     } else {
         None
     }
@@ -18,7 +54,7 @@ pub(crate) fn names_of(words: &[String]) -> Option<(&str, &str)>
 
 // Whether the word is neither empty nor begins with `-`.
 fn is_name(word: &[u8]) -> bool
-    ensures { result ≡ is_lawful_name word.now }
+    ensures { result ≡ is_valid_name word.now }
 {
     match word {
         [] => false,

@@ -1,6 +1,13 @@
--- A tree that can't be run.
-use Rattle.repair_cli.specs.Faults.{Refuses}
+-- The refusal of a source for its first fault.
+use Rattle.repair_cli.specs.Refusal.{status_of, message_of}
+use Rattle.repair_cli.proofs.Refusing.{fault_within, is_refusal}
 use Rattle.repair_cli.proofs.gather.refused.Goals as goal
 
-pub returns-in-Unsupported : goal.returns-in-Unsupported
-returns-in-Unsupported c = let why = rw c.in-Unsupported.is at c.requires.fault in Refuses.unsupported why.0 why.1 why.2
+pub of_program-requires-clause-within : goal.of_program-requires-clause-within
+of_program-requires-clause-within c = fault_within c.args.source.now c.args.fault (c.requires.fault c.in_default.not-NoMemory)
+
+pub returns-in_default : goal.returns-in_default
+returns-in_default c =
+    let first = c.requires.fault c.in_default.not-NoMemory in
+    let r = c.of_program.result in
+    is_refusal c.args.name.now c.args.source.now c.args.fault (status_of r) (message_of r) first c.of_program.ensures.status c.of_program.ensures.message

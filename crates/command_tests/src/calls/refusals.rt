@@ -25,7 +25,7 @@ fn refuses(rt: &impl Abort, alloc: Global, program: &str, message: &str) -> Resu
 }
 
 #[test]
-fn tells_the_first_fault_of_a_text(rt: HostRuntime) -> Result<(), Fail> {
+fn reports_the_first_fault_of_a_text(rt: HostRuntime) -> Result<(), Fail> {
     let table = [
         ("int main(void){ return @; }", "p.c:1:24: stray byte\n"),
         ("int main(void){} /* x", "p.c:1:18: comment is not closed\n"),
@@ -69,7 +69,7 @@ fn tells_the_first_fault_of_a_text(rt: HostRuntime) -> Result<(), Fail> {
 }
 
 #[test]
-fn tells_what_cannot_be_run_yet(rt: HostRuntime) -> Result<(), Fail> {
+fn reports_what_cannot_be_run_yet(rt: HostRuntime) -> Result<(), Fail> {
     let table = [
         "int main(void) { int a, b; }",
         "int main(void) { int a = 1; }",

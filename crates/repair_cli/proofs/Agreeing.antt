@@ -1,0 +1,175 @@
+-- What a call answers or refuses is settled by its words and files.
+use Rattle.std.proofs.Common.{◌≡◌, ℕ, List, [], ap, sym, subst, ◌∙◌, refl}
+use Rattle.std.specs.Prelude.{Some, None, unwrap_or}
+use Rattle.std.proofs.lemmas.Option.{same_Some, none-some}
+use Rattle.fx_io.specs.Held.{file_named}
+use Rattle.c_tree.specs.Tree.{Outer}
+use Rattle.c_stdio.specs.declared.test.Test.{Test}
+use Rattle.test_suite.specs.Suite.{suite}
+use Rattle.repair_job.specs.Job.{Job}
+use Rattle.repair_job.specs.Answers.{IsRight}
+use Rattle.repair_job.specs.Texts.{IsText}
+use Rattle.repair_job.specs.declared.answer.Answer.{Answer}
+use Rattle.repair_job.specs.declared.answer.Answer.TheVariants as answer
+use Rattle.repair_job.proofs.OneAnswer.{one_right, one_text}
+use Rattle.repair_cli.specs.Accepted.{IsProgram, IsSuite}
+use Rattle.repair_cli.specs.Ends.{Ends, IsAnswer, status_of_answer}
+use Rattle.repair_cli.specs.Faults.{Refuses}
+use Rattle.repair_cli.specs.Laws.{given, OneReply, OneEnd, IsSettled, Settled, AppendAlike}
+use Rattle.repair_cli.specs.Sinks.{Seen, Appends}
+use Rattle.repair_cli.specs.Source.{Files, File, HoldsSomeProgram, HoldsNoProgram, HoldsSuite, HoldsNoSuite}
+use Rattle.repair_cli.specs.Texts.{usage, bad_suite}
+use Rattle.repair_cli.specs.Words.{Asked, repair, command_in}
+use Rattle.repair_cli.specs.declared.status.Status.{Status}
+use Rattle.repair_cli.specs.declared.status.Status.TheVariants as status
+use Rattle.repair_cli.proofs.Accepting.{one_program, one_refusal, never_both}
+use Rattle.repair_cli.proofs.Commands.{one_asked}
+
+-- ---- one job
+
+-- a job of these parts
+abbrev made : List ℕ → List Outer → List Test → ℕ → ℕ → Job
+made source program tests limit most = record { source = source; program = program; tests = tests; limit = limit; most_patches = most }
+
+-- jobs with the same parts are the same
+same_job : (j k : Job) → j.source ≡ k.source → j.program ≡ k.program → j.tests ≡ k.tests → j.limit ≡ k.limit → j.most_patches ≡ k.most_patches → j ≡ k
+same_job j k s p t l m =
+    ap (λ x. made x j.program j.tests j.limit j.most_patches) s ∙ ap (λ x. made k.source x j.tests j.limit j.most_patches) p
+    ∙ ap (λ x. made k.source k.program x j.limit j.most_patches) t ∙ ap (λ x. made k.source k.program k.tests x j.most_patches) l
+    ∙ ap (λ x. made k.source k.program k.tests k.limit x) m
+
+-- a known file of one name has one content
+one_content : (files : Files) (a b : List ℕ) (x y : List ℕ) → a ≡ b → file_named files a ≡ Some x → file_named files b ≡ Some y → x ≡ y
+one_content files a b x y e p q = same_Some x y (sym p ∙ ap (file_named files) e ∙ q)
+
+-- known files and words state one job at most
+one_job : (words : List (List ℕ)) (files : Files) (m n m' n' : ℕ) (a b : Answer) (t u : List ℕ) (x : IsAnswer (given words files m n) a t) (y : IsAnswer (given words files m' n') b u)
+    → x.job ≡ y.job
+one_job words files m n m' n' a b t u x y =
+    let i = x.stated in
+    let j = y.stated in
+    let asked = one_asked words i.asked j.asked i.valid j.valid in
+    let source : x.job.source ≡ y.job.source =
+    one_content files i.asked.program j.asked.program x.job.source y.job.source (ap (λ (k : Asked). k.program) asked) i.program.0 j.program.0 in
+    let program : x.job.program ≡ y.job.program =
+    one_program y.job.source x.job.program y.job.program (subst (λ w. IsProgram w x.job.program) source i.program.1) j.program.1 in
+    let lists : i.suite.0 ≡ j.suite.0 =
+    one_content files i.asked.suite j.asked.suite i.suite.0 j.suite.0 (ap (λ (k : Asked). k.suite) asked) i.suite.1 j.suite.1 in
+    let tests : x.job.tests ≡ y.job.tests = same_Some x.job.tests y.job.tests (sym i.suite.2.tests_are ∙ ap suite lists ∙ j.suite.2.tests_are) in
+    let own : i.limit ≡ j.limit = i.suite.2.limit_is ∙ sym j.suite.2.limit_is in
+    let limit : x.job.limit ≡ y.job.limit =
+    i.limit_is ∙ ap (λ l. unwrap_or i.asked.options.limit l) own ∙ ap (λ (k : Asked). unwrap_or k.options.limit j.limit) asked ∙ sym j.limit_is in
+    let most : x.job.most_patches ≡ y.job.most_patches = i.patches_are ∙ ap (λ (k : Asked). k.options.patches) asked ∙ sym j.patches_are in
+    same_job x.job y.job source program tests limit most
+
+-- where the files are known, one answer at most is right for them, with one text
+pub one_reply : OneReply
+one_reply words files m n m' n' a b t u x y =
+    let job = one_job words files m n m' n' a b t u x y in
+    let right : IsRight y.job a = subst (λ j. IsRight j a) job x.right in
+    let same : a ≡ b = one_right y.job a b right y.right in
+    let text : IsText y.job b t = subst (λ c. IsText y.job c t) same (subst (λ j. IsText j a t) job x.is_text) in
+    (same, one_text y.job b t u text y.is_text)
+
+-- ---- one end
+
+-- a known file of this name
+abbrev known : Files → List ℕ → File
+known files name = record { name = name; held = Some files; faults = 0; faults_after = 0 }
+
+-- why a call ends with a status, and appends these bytes to standard output and to standard error
+data Why (words : List (List ℕ)) (files : Files) : Status → List ℕ → List ℕ → Type 0 where
+  no_command : {e : List ℕ} → command_in words ≡ None → e ≡ usage → Why words files status.Usage [] e
+  no_program : {e : List ℕ} (asked : Asked) → command_in words ≡ Some (repair asked) → HoldsNoProgram (known files asked.program) e → Why words files status.ProgramRefused [] e
+  no_suite : {e : List ℕ} (asked : Asked) → command_in words ≡ Some (repair asked) → HoldsSomeProgram (known files asked.program) → HoldsNoSuite (known files asked.suite)
+      → e ≡ bad_suite asked.suite → Why words files status.SuiteRefused [] e
+  answered : {o : List ℕ} (a : Answer) (m n : ℕ) → IsAnswer (given words files m n) a o → Why words files (status_of_answer a) o []
+
+-- what was appended, and why
+record Gist (words : List (List ℕ)) (files : Files) (out err : Seen) (s : Status) : Type 0 where
+  text : List ℕ
+  message : List ℕ
+  out_has : Appends out text
+  err_has : Appends err message
+  why : Why words files s text message
+
+-- an answer or a refusal has that gist
+gist : (words : List (List ℕ)) (files : Files) (m n : ℕ) (out err : Seen) (s : Status) → Ends (given words files m n) out err s → IsSettled s → Gist words files out err s
+gist words files m n out err status.Patched (rank, a) i = record { text = a.text; message = []; out_has = a.written; err_has = a.silent; why = Why.answered (answer.Patch rank) m n a.right }
+gist words files m n out err status.Nothing a i = record { text = a.text; message = []; out_has = a.written; err_has = a.silent; why = Why.answered answer.Nothing m n a.right }
+gist words files m n out err status.Sound a i = record { text = a.text; message = []; out_has = a.written; err_has = a.silent; why = Why.answered answer.Sound m n a.right }
+gist words files m n out err status.Usage r i = record { text = []; message = r.text; out_has = r.silent; err_has = r.written; why = Why.no_command r.cause.0 r.cause.1 }
+gist words files m n out err status.ProgramRefused r i =
+    let c = r.cause in record { text = []; message = r.text; out_has = r.silent; err_has = r.written; why = Why.no_program c.asked c.valid c.refused }
+gist words files m n out err status.SuiteRefused r i =
+    let c = r.cause in record { text = []; message = r.text; out_has = r.silent; err_has = r.written; why = Why.no_suite c.asked c.valid c.program c.refused c.message }
+gist words files m n out err _ r i = absurd i
+
+-- a command is no command
+no_both : (words : List (List ℕ)) (asked : Asked) → command_in words ≡ None → command_in words ≡ Some (repair asked) → ⊥
+no_both words asked x y = let e = sym x ∙ y in absurd (cc)
+
+-- one program can't be refused and accepted
+program_clash : (words : List (List ℕ)) (files : Files) (a b : Asked) (e : List ℕ) → command_in words ≡ Some (repair a) → command_in words ≡ Some (repair b)
+    → HoldsNoProgram (known files a.program) e → HoldsSomeProgram (known files b.program) → ⊥
+program_clash words files a b e x y bad some =
+    let asked = one_asked words a b x y in
+    let same = one_content files b.program a.program some.0 bad.0 (ap (λ (k : Asked). k.program) (sym asked)) some.2.0 bad.1 in
+    never_both a.program bad.0 e some.1 (subst (λ w. IsProgram w some.1) same some.2.1) bad.2
+
+-- one suite can't be refused and accepted
+suite_clash : (words : List (List ℕ)) (files : Files) (a b : Asked) (tests : List Test) (limit : ℕ) → command_in words ≡ Some (repair a) → command_in words ≡ Some (repair b)
+    → HoldsNoSuite (known files a.suite) → HoldsSuite (known files b.suite) tests limit → ⊥
+suite_clash words files a b tests limit x y bad some =
+    let asked = one_asked words a b x y in
+    let same = one_content files a.suite b.suite bad.0 some.0 (ap (λ (k : Asked). k.suite) asked) bad.1 some.1 in
+    none-some tests (sym bad.2 ∙ ap suite same ∙ some.2.tests_are)
+
+-- what is said of one refused program is one message
+program_said : (words : List (List ℕ)) (files : Files) (a b : Asked) (t u : List ℕ) → command_in words ≡ Some (repair a) → command_in words ≡ Some (repair b)
+    → HoldsNoProgram (known files a.program) t → HoldsNoProgram (known files b.program) u → t ≡ u
+program_said words files a b t u x y bad also =
+    let name = ap (λ (k : Asked). k.program) (one_asked words a b x y) in
+    let same = one_content files a.program b.program bad.0 also.0 name bad.1 also.1 in
+    one_refusal b.program also.0 t u (subst (λ w. Refuses b.program w t) same (subst (λ n. Refuses n bad.0 t) name bad.2)) also.2
+
+-- the same status, and the same bytes
+abbrev Alike : Status → Status → List ℕ → List ℕ → List ℕ → List ℕ → Type 0
+Alike s s' o o' e e' = (s ≡ s') × (o ≡ o') × (e ≡ e')
+
+-- words and files settle it
+agree : (words : List (List ℕ)) (files : Files) (s s' : Status) (o o' e e' : List ℕ) → Why words files s o e → Why words files s' o' e' → Alike s s' o o' e e'
+agree words files _ _ _ _ _ _ (Why.no_command x p) (Why.no_command y q) = (refl, refl, p ∙ sym q)
+agree words files _ _ _ _ _ _ (Why.no_command x p) (Why.no_program b y bad) = absurd (no_both words b x y)
+agree words files _ _ _ _ _ _ (Why.no_command x p) (Why.no_suite b y some bad q) = absurd (no_both words b x y)
+agree words files _ _ _ _ _ _ (Why.no_command x p) (Why.answered b m n y) = absurd (no_both words y.stated.asked x y.stated.valid)
+agree words files _ _ _ _ _ _ (Why.no_program a x bad) (Why.no_command y q) = absurd (no_both words a y x)
+agree words files _ _ _ _ e e' (Why.no_program a x bad) (Why.no_program b y also) = (refl, refl, program_said words files a b e e' x y bad also)
+agree words files _ _ _ _ e _ (Why.no_program a x bad) (Why.no_suite b y some never q) = absurd (program_clash words files a b e x y bad some)
+agree words files _ _ _ _ e _ (Why.no_program a x bad) (Why.answered b m n y) =
+    absurd (program_clash words files a y.stated.asked e x y.stated.valid bad (y.job.source, y.job.program, y.stated.program))
+agree words files _ _ _ _ _ _ (Why.no_suite a x some bad p) (Why.no_command y q) = absurd (no_both words a y x)
+agree words files _ _ _ _ _ e' (Why.no_suite a x some bad p) (Why.no_program b y also) = absurd (program_clash words files b a e' y x also some)
+agree words files _ _ _ _ _ _ (Why.no_suite a x some bad p) (Why.no_suite b y also never q) =
+    (refl, refl, p ∙ ap (λ (k : Asked). bad_suite k.suite) (one_asked words a b x y) ∙ sym q)
+agree words files _ _ _ _ _ _ (Why.no_suite a x some bad p) (Why.answered b m n y) =
+    absurd (suite_clash words files a y.stated.asked y.job.tests y.stated.limit x y.stated.valid bad y.stated.suite)
+agree words files _ _ _ _ _ _ (Why.answered a m n x) (Why.no_command y q) = absurd (no_both words x.stated.asked y x.stated.valid)
+agree words files _ _ _ _ _ e' (Why.answered a m n x) (Why.no_program b y also) =
+    absurd (program_clash words files b x.stated.asked e' y x.stated.valid also (x.job.source, x.job.program, x.stated.program))
+agree words files _ _ _ _ _ _ (Why.answered a m n x) (Why.no_suite b y some bad q) =
+    absurd (suite_clash words files b x.stated.asked x.job.tests x.stated.limit y x.stated.valid bad x.stated.suite)
+agree words files _ _ o o' _ _ (Why.answered a m n x) (Why.answered b m' n' y) =
+    let r = one_reply words files m n m' n' a b o o' x y in
+    (ap status_of_answer r.0, r.1, refl)
+
+-- two calls with the same words and files end alike
+pub one_end : OneEnd
+one_end words files one other =
+    let x = gist words files one.faults one.faults_after one.out one.err one.status one.ends one.settled in
+    let y = gist words files other.faults other.faults_after other.out other.err other.status other.ends other.settled in
+    let same = agree words files one.status other.status x.text y.text x.message y.message x.why y.why in (
+      same.0,
+      record { text = y.text; one = subst (Appends one.out) same.1 x.out_has; both = y.out_has },
+      record { text = y.message; one = subst (Appends one.err) same.2 x.err_has; both = y.err_has },
+    )

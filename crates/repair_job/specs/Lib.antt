@@ -1,0 +1,5 @@
+pub mod Answers
+pub mod Job
+pub mod Laws
+pub mod Patches
+pub mod Texts
