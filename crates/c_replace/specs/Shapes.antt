@@ -12,8 +12,10 @@ use Rattle.c_tree.specs.Tree.{Tree, bare}
 use Rattle.c_grammar.specs.declared.part.Part.{Part}
 use Rattle.c_grammar.specs.Grammar.{Tokens, Reads}
 
--- Where there is room, an expression of the kind N is read from the tokens a on, and tokens of the kinds
--- ls are left. It is t but for spans, slots and the spelling of constants. No more room is taken than is
+-- Where there is room, an expression of the kind N is read from the tokens a on, and tokens of the
+-- kinds
+-- ls are left. It is t but for spans, slots and the spelling of constants. No more room is taken than
+-- is
 -- needed.
 pub record GotTree (N : Part) (ls : List TokenKind) (a : Tokens) (t : Tree) : Type 0 where
   pub rest : Tokens
