@@ -1,0 +1,4 @@
+pub mod PrintedKinds
+pub mod Safe
+pub mod Sourced
+pub mod Laws
