@@ -22,8 +22,7 @@ abbrev pub Claim : Type 1
 Claim = List TokenKind → Rewrite → Type 0
 
 -- Some tokens of a part are the location's, P holds of those before them, and locs are the locations in
--- the
--- part. Where others that fit stand in their place, J holds of the kinds of all and of the rewrite.
+-- the part. Where others that fit stand in their place, J holds of the kinds of all and of the rewrite.
 pub record Hole (l : Loc) (P : Tokens → Type 0) (J : Claim)
     (locs : List Located) (own : Tokens) : Type 0 where
   pub before : Tokens
