@@ -90,7 +90,8 @@ in_given (by_value t) = in_tree t
 in_given (by_format w s) = []
 in_given (by_address t) = in_tree t
 
--- arguments with the part at the location rewritten, without spans, slots and the spelling of constants, one by one
+-- arguments with the part at the location rewritten, without spans, slots and the spelling of
+-- constants, one by one
 args_to : (l : Loc) (how : Rewrite) (gs : List Given)
     → bare_args (to_args l how (args gs)) ≡ args (map bare_given (map (given_to l how) gs))
 args_to l how [] = refl
@@ -121,6 +122,7 @@ module _ (l : Loc) where
 
   -- ---- forms
 
+  -- the same tokens as another kind
   raise : {N M : Part} {a b : Tokens} {t : Tree} → EditedTree N a b t
       → ((ks : List TokenKind) (u : Tree) → Shaped N ks u → Shaped M ks u) → EditedTree M a b t
   raise {t = t} o f = record {
@@ -195,11 +197,9 @@ module _ (l : Loc) where
   pub owned_as : {N : Part} {a b : Tokens} {t : Tree} → Own N a b t → (o : EditedTree N a b t)
       → Shaped N (kinds o.own) (bare t) × (is_settled o.own ≡ true)
   owned_as {N} {b = b} {t = t} w o =
-      let same = prefix_same w.own o.own b (sym w.splits ∙ o.splits) in (
-        subst (λ q. Shaped N (kinds q) (bare t)) same w.shaped,
-        subst
-            (λ q. is_settled q ≡ true) same w.settled,
-      )
+      let same = prefix_same w.own o.own b (sym w.splits ∙ o.splits) in
+      let shaped = subst (λ q. Shaped N (kinds q) (bare t)) same w.shaped in
+      (shaped, subst (λ q. is_settled q ≡ true) same w.settled)
 
   -- a right side, by whether it is the location
   side_by : {N : Part} {a b : Tokens} {t : Tree} (w : Own N a b t) (o : EditedTree N a b t)
@@ -300,8 +300,10 @@ module _ (l : Loc) where
         ((kind.Punct mark.CloseParen, e) ∷ []) refl
         (further ((kind.Name w, s) ∷ (kind.Punct mark.OpenParen, o) ∷ [])) refl
         (λ ks how y. subst
-        (λ q. Shaped Primary (kind.Name w ∷ kind.Punct mark.OpenParen ∷ (ks ++ kind.Punct mark.CloseParen ∷ []))
-        (tree.call w q tree.no_span)) (sym (args_to l how gs)) (shape.call w y)) (x.edited o.to at.0 at.1);
+        (λ q. Shaped Primary (kind.Name w ∷ kind.Punct mark.OpenParen ∷
+        (ks ++ kind.Punct mark.CloseParen ∷ []))
+        (tree.call w q tree.no_span)) (sym (args_to l how gs)) (shape.call w y))
+        (x.edited o.to at.0 at.1);
   }
 
   -- an expression in parentheses

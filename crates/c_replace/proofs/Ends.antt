@@ -52,8 +52,8 @@ pub record GotThen {X : Type 0} (R : ℕ → Tokens → Tokens → X → Type 0)
   pub reads : (r : ℕ) → need ≤ r → R r a ((k, span) ∷ rest) found
 
 -- tokens of the kinds of a part, a token and others begin with the part and the token
-pub got_then : {X : Type 0} {R : ℕ → Tokens → Tokens → X → Type 0} {bare : X
-    → X} {ks : List TokenKind} {x : X} (k : TokenKind) (ls : List TokenKind) (a : Tokens)
+pub got_then : {X : Type 0} {R : ℕ → Tokens → Tokens → X → Type 0} {bare : X → X} {ks : List TokenKind}
+    {x : X} (k : TokenKind) (ls : List TokenKind) (a : Tokens)
     → Formed R bare ks x → kinds a ≡ ks ++ k ∷ ls
     → GotThen R bare k ls a x
 got_then {X} {R} k ls a f e =

@@ -1,5 +1,5 @@
 -- Each production of declarations, by the kinds of its tokens alone.
-use Rattle.std.proofs.Common.{◌≡◌, ℕ, ℤ, suc, ◌+◌, ◌≤◌, true, false, List, [], ◌∷◌, ◌++◌, map, Option, Some, None, refl, sym, ap, ◌∙◌, subst, arith, append_assoc}
+use Rattle.std.proofs.Common.{◌≡◌, ℕ, ℤ, suc, ◌+◌, true, false, List, [], ◌∷◌, ◌++◌, map, Option, Some, None, refl, sym, ap, ◌∙◌, subst, arith, append_assoc}
 use Rattle.c_lex.specs.declared.token.TokenKind.{TokenKind}
 use Rattle.c_lex.specs.declared.token.TokenKind.TheVariants as kind
 use Rattle.c_lex.specs.declared.token.Keyword.{Keyword}
@@ -16,7 +16,6 @@ use Rattle.c_grammar.specs.declared.part.Part.TheVariants.{Expression, Assignmen
 use Rattle.c_grammar.specs.Operators.{type_word}
 use Rattle.c_grammar.specs.Grammar.{Tokens, over, Reads}
 use Rattle.c_grammar.specs.Programs.{variable, parameter, Length, Elements, Declarator, Declarators, Vars, Clause, Optional, Parameter, Parameters, Signature}
-use Rattle.c_lex.specs.Lexemes.{kinds}
 use Rattle.c_replace.specs.Shapes.{Shaped}
 use Rattle.c_replace.specs.Forms.{Formed}
 use Rattle.c_replace.proofs.Splits.{at_suc, headed}

@@ -211,7 +211,8 @@ own_call {a} {b} {w} {s} {o} {e} {gs} x = record {
   splits = ap (λ q. (kind.Name w, s) ∷ (kind.Punct mark.OpenParen, o) ∷ q)
       (x.splits ∙ sym (append_assoc x.own ((kind.Punct mark.CloseParen, e) ∷ []) b));
   shaped = subst (λ q. Shaped Primary (kinds ((kind.Name w, s) ∷ (kind.Punct mark.OpenParen, o) ∷
-      (x.own ++ (kind.Punct mark.CloseParen, e) ∷ []))) (tree.call w q tree.no_span)) (sym (shape.bare_each gs))
+      (x.own ++ (kind.Punct mark.CloseParen, e) ∷ []))) (tree.call w q tree.no_span))
+      (sym (shape.bare_each gs))
       (subst (λ q. Shaped Primary (kind.Name w ∷ kind.Punct mark.OpenParen ∷ q)
       (tree.call w (args (map bare_given gs)) tree.no_span))
       (sym (kinds_append x.own ((kind.Punct mark.CloseParen, e) ∷ [])))
@@ -290,7 +291,8 @@ mutual
       (owned d1) (owned d2) (λ ks ls x y. shape.comma x y)
 
   -- the same of an argument
-  owned_argument : {r : ℕ} {a b : Tokens} {g : Given} → Argument r a b g → OwnPart Argument bare_given a b g
+  owned_argument : {r : ℕ} {a b : Tokens} {g : Given} → Argument r a b g
+      → OwnPart Argument bare_given a b g
   owned_argument (Argument.value d) = let o = owned d in record {
     own = o.own;
     splits = o.splits;

@@ -114,8 +114,10 @@ guard_formed {test} {old} new c f g =
     (shape.block (shape.statement_item (shape.if_then f g) shape.none))
 
 -- an expression in parentheses, where an operand of operators of some rank is wanted
-operand_of : {ks : List TokenKind} {t : Tree} (j : ℕ) → Shaped Expression ks t → Shaped (Binary j) (enclosed ks) t
-operand_of zero s = expression.operand (expression.cast (expression.unary (expression.postfix (expression.paren s))))
+operand_of : {ks : List TokenKind} {t : Tree} (j : ℕ) → Shaped Expression ks t
+    → Shaped (Binary j) (enclosed ks) t
+operand_of zero s = expression.operand (expression.cast
+    (expression.unary (expression.postfix (expression.paren s))))
 operand_of (suc j) s = expression.weaker (operand_of j s)
 
 -- an expression of operators, where any is wanted
@@ -123,17 +125,22 @@ any_of : {ks : List TokenKind} {t : Tree} → Shaped (Binary weakest) ks t → S
 any_of s = expression.expression (expression.assignment (expression.conditional s))
 
 -- the old condition and a new one
-narrowed_shaped : {old ks : List TokenKind} {t u : Tree} → Shaped Expression old t → Shaped Expression ks u
+narrowed_shaped : {old ks : List TokenKind} {t u : Tree} → Shaped Expression old t
+    → Shaped Expression ks u
     → Shaped Expression (joined_kinds mark.AndAnd old ks) (binary Both t u no_span)
-narrowed_shaped s f = any_of (expression.weaker (expression.binary mark.AndAnd Both refl refl (operand_of 9 s) (operand_of 8 f)))
+narrowed_shaped s f = any_of (expression.weaker
+    (expression.binary mark.AndAnd Both refl refl (operand_of 9 s) (operand_of 8 f)))
 
 -- the old condition or a new one
-widened_shaped : {old ks : List TokenKind} {t u : Tree} → Shaped Expression old t → Shaped Expression ks u
+widened_shaped : {old ks : List TokenKind} {t u : Tree} → Shaped Expression old t
+    → Shaped Expression ks u
     → Shaped Expression (joined_kinds mark.OrOr old ks) (binary Either t u no_span)
-widened_shaped s f = any_of (expression.binary mark.OrOr Either refl refl (operand_of 10 s) (operand_of 9 f))
+widened_shaped s f = any_of (expression.binary mark.OrOr Either refl refl (operand_of 10 s)
+    (operand_of 9 f))
 
 -- the old condition and a new one fit
-narrowed_fits : (k : LocKind) (at : Span) (part : Part) (old ks : List TokenKind) (new : Tree) → k ≡ Cond → IsOf k at part → IsPart old part → Shaped Expression ks (bare new)
+narrowed_fits : (k : LocKind) (at : Span) (part : Part) (old ks : List TokenKind) (new : Tree)
+    → k ≡ Cond → IsOf k at part → IsPart old part → Shaped Expression ks (bare new)
     → Fits k (joined_kinds mark.AndAnd old ks) (rewrite (combined Both new) part)
 narrowed_fits Cond at (part.expression e) old ks new i o g s = narrowed_shaped g s
 narrowed_fits Cond at (part.statement c) old ks new i o g s = absurd o
@@ -141,7 +148,8 @@ narrowed_fits Guard at part old ks new i o g s = absurd (cc)
 narrowed_fits Right at part old ks new i o g s = absurd (cc)
 
 -- the old condition or a new one fits
-widened_fits : (k : LocKind) (at : Span) (part : Part) (old ks : List TokenKind) (new : Tree) → k ≡ Cond → IsOf k at part → IsPart old part → Shaped Expression ks (bare new)
+widened_fits : (k : LocKind) (at : Span) (part : Part) (old ks : List TokenKind) (new : Tree) → k ≡ Cond
+    → IsOf k at part → IsPart old part → Shaped Expression ks (bare new)
     → Fits k (joined_kinds mark.OrOr old ks) (rewrite (combined Either new) part)
 widened_fits Cond at (part.expression e) old ks new i o g s = widened_shaped g s
 widened_fits Cond at (part.statement c) old ks new i o g s = absurd o

@@ -60,7 +60,8 @@ lead {N} {M} {ks} k u f step same x = record {
         found = found;
         is_bare = same h.span g.found g.is_bare;
         reads = λ r l.
-            at_suc (λ i. (m : ℕ) × (i ≤ m + suc g.need) × Reads M i ((k, h.span) ∷ h.tail) m g.rest found)
+            at_suc (λ i. (m : ℕ) × (i ≤ m + suc g.need)
+            × Reads M i ((k, h.span) ∷ h.tail) m g.rest found)
             g.need r l
             (λ q j. let d = g.reads q j in
             (d.0, omega (arith, d.1), step h.span q d.0 h.tail g.rest g.found d.2));
@@ -68,7 +69,8 @@ lead {N} {M} {ks} k u f step same x = record {
 }
 
 -- a token after a part
-trail : {N M : Part} {ks : List TokenKind} {t : Tree} (k : TokenKind) (u : Tree) (f : Span → Tree → Tree)
+trail : {N M : Part} {ks : List TokenKind} {t : Tree} (k : TokenKind) (u : Tree)
+    (f : Span → Tree → Tree)
     → ((s : Span) (r m : ℕ) (a b : Tokens) (v : Tree) → Reads N r a m ((k, s) ∷ b) v
     → Reads M r a m b (f s v))
     → ((s : Span) (v : Tree) → bare v ≡ t → bare (f s v) ≡ u) → Shaped N ks t
@@ -172,7 +174,8 @@ paren {ks} {t} x = record {
   each = λ ls a e.
       let end = kind.Punct mark.CloseParen ∷ [] in
       let h = headed a (kind.Punct mark.OpenParen) ((ks ++ end) ++ ls) e in
-      let g = got_end (kind.Punct mark.CloseParen) ls h.tail x (h.tail_kinds ∙ append_assoc ks end ls) in
+      let g = got_end (kind.Punct mark.CloseParen) ls h.tail x
+      (h.tail_kinds ∙ append_assoc ks end ls) in
       let found = wrapped (over h.span g.span) g.found in
       subst (λ q. GotTree Primary ls q t) (sym h.consists)
       (record {
@@ -212,15 +215,18 @@ opened w p ks a e =
 
 -- a name and an expression in brackets
 pub index : {ks : List TokenKind} {t : Tree} (w : List ℕ) → Shaped Expression ks t
-    → Shaped Primary (kind.Name w ∷ kind.Punct mark.OpenBracket ∷ (ks ++ kind.Punct mark.CloseBracket ∷ []))
+    → Shaped Primary (kind.Name w ∷ kind.Punct mark.OpenBracket ∷
+    (ks ++ kind.Punct mark.CloseBracket ∷ []))
     (tree.index w Unset t no_span)
 index {ks} {t} w x = record {
   each = λ ls a e.
       let end = kind.Punct mark.CloseBracket ∷ [] in
       let h = opened w mark.OpenBracket ((ks ++ end) ++ ls) a e in
-      let g = got_end (kind.Punct mark.CloseBracket) ls h.tail x (h.tail_kinds ∙ append_assoc ks end ls) in
+      let g = got_end (kind.Punct mark.CloseBracket) ls h.tail x
+      (h.tail_kinds ∙ append_assoc ks end ls) in
       let found = tree.index w Unset g.found (over h.name_span g.span) in
-      let own : Tokens = (kind.Name w, h.name_span) ∷ (kind.Punct mark.OpenBracket, h.open_span) ∷ h.tail in
+      let own : Tokens = (kind.Name w, h.name_span) ∷
+      (kind.Punct mark.OpenBracket, h.open_span) ∷ h.tail in
       subst (λ q. GotTree Primary ls q (tree.index w Unset t no_span)) (sym h.consists)
       (record {
         rest = g.rest;
@@ -243,9 +249,11 @@ call_bare w = record {
       let h = opened w mark.OpenParen (kind.Punct mark.CloseParen ∷ ls) a e in
       let g = headed h.tail (kind.Punct mark.CloseParen) ls h.tail_kinds in
       let found = tree.call w tree.no_args (over h.name_span g.span) in
-      let start : Tokens → Tokens = λ q. (kind.Name w, h.name_span) ∷ (kind.Punct mark.OpenParen, h.open_span) ∷ q in
+      let start : Tokens → Tokens = λ q. (kind.Name w, h.name_span) ∷
+      (kind.Punct mark.OpenParen, h.open_span) ∷ q in
       let own : Tokens = start ((kind.Punct mark.CloseParen, g.span) ∷ g.tail) in
-      subst (λ q. GotTree Primary ls q (tree.call w tree.no_args no_span)) (sym (h.consists ∙ ap start g.consists))
+      subst (λ q. GotTree Primary ls q (tree.call w tree.no_args no_span))
+      (sym (h.consists ∙ ap start g.consists))
       (record {
         rest = g.tail;
         rest_kinds = g.tail_kinds;
@@ -266,16 +274,19 @@ bare_each (by_format w s ∷ gs) = ap (tree.format w no_span) (bare_each gs)
 bare_each (by_address t ∷ gs) = ap (tree.address (bare t)) (bare_each gs)
 
 -- a call with arguments
-pub call : {ks : List TokenKind} {gs : List Given} (w : List ℕ) → Formed Arguments (map bare_given) ks gs
+pub call : {ks : List TokenKind} {gs : List Given} (w : List ℕ)
+    → Formed Arguments (map bare_given) ks gs
     → Shaped Primary (kind.Name w ∷ kind.Punct mark.OpenParen ∷ (ks ++ kind.Punct mark.CloseParen ∷ []))
     (tree.call w (args gs) no_span)
 call {ks} {gs} w x = record {
   each = λ ls a e.
       let end = kind.Punct mark.CloseParen ∷ [] in
       let h = opened w mark.OpenParen ((ks ++ end) ++ ls) a e in
-      let g = got_then (kind.Punct mark.CloseParen) ls h.tail x (h.tail_kinds ∙ append_assoc ks end ls) in
+      let g = got_then (kind.Punct mark.CloseParen) ls h.tail x
+      (h.tail_kinds ∙ append_assoc ks end ls) in
       let found = tree.call w (args g.found) (over h.name_span g.span) in
-      let own : Tokens = (kind.Name w, h.name_span) ∷ (kind.Punct mark.OpenParen, h.open_span) ∷ h.tail in
+      let own : Tokens = (kind.Name w, h.name_span) ∷
+      (kind.Punct mark.OpenParen, h.open_span) ∷ h.tail in
       subst (λ q. GotTree Primary ls q (tree.call w (args gs) no_span)) (sym h.consists)
       (record {
         rest = g.rest;
@@ -324,17 +335,20 @@ pub cast : {ks : List TokenKind} {t : Tree} → Shaped Unary ks t → Shaped Cas
 cast x = up (λ r m a b u d. Reads.cast d) x
 
 -- a cast
-pub cast_to : {ks : List TokenKind} {t : Tree} (k : Keyword) (ty : Ty) → type_word k ≡ Some ty → Shaped Cast ks t
+pub cast_to : {ks : List TokenKind} {t : Tree} (k : Keyword) (ty : Ty) → type_word k ≡ Some ty
+    → Shaped Cast ks t
     → Shaped Cast (kind.Punct mark.OpenParen ∷ kind.Word k ∷ kind.Punct mark.CloseParen ∷ ks)
     (tree.cast ty t no_span)
 cast_to {ks} {t} k ty f x = record {
   each = λ ls a e.
-      let o = headed a (kind.Punct mark.OpenParen) (kind.Word k ∷ kind.Punct mark.CloseParen ∷ (ks ++ ls)) e in
+      let o = headed a (kind.Punct mark.OpenParen)
+      (kind.Word k ∷ kind.Punct mark.CloseParen ∷ (ks ++ ls)) e in
       let h = headed o.tail (kind.Word k) (kind.Punct mark.CloseParen ∷ (ks ++ ls)) o.tail_kinds in
       let i = headed h.tail (kind.Punct mark.CloseParen) (ks ++ ls) h.tail_kinds in
       let g = x.each ls i.tail i.tail_kinds in
       let found = tree.cast ty g.found (over o.span (span_of g.found)) in
-      let own : Tokens = (kind.Punct mark.OpenParen, o.span) ∷ (kind.Word k, h.span) ∷ (kind.Punct mark.CloseParen, i.span) ∷ i.tail in
+      let own : Tokens = (kind.Punct mark.OpenParen, o.span) ∷ (kind.Word k, h.span) ∷
+      (kind.Punct mark.CloseParen, i.span) ∷ i.tail in
       let whole : a ≡ own = o.consists ∙ ap (λ q. (kind.Punct mark.OpenParen, o.span) ∷ q)
       (h.consists ∙ ap (λ q. (kind.Word k, h.span) ∷ q) i.consists) in
       subst (λ q. GotTree Cast ls q (tree.cast ty t no_span)) (sym whole)
@@ -399,13 +413,17 @@ comma {t = t} {u = u} x y = between (kind.Punct mark.Comma) _ (λ v w. followed 
     (λ v w g h. ap (λ q. tree.comma q (bare w) no_span) g ∙ ap (λ q. tree.comma t q no_span) h) x y
 
 -- `test ? yes : no`
-pub choose : {ks is js : List TokenKind} {t u v : Tree} → Shaped (Binary weakest) ks t → Shaped Expression is u → Shaped Conditional js v
-    → Shaped Conditional (ks ++ kind.Punct mark.Question ∷ (is ++ kind.Punct mark.Colon ∷ js)) (tree.choice t u v no_span)
+pub choose : {ks is js : List TokenKind} {t u v : Tree} → Shaped (Binary weakest) ks t
+    → Shaped Expression is u → Shaped Conditional js v
+    → Shaped Conditional (ks ++ kind.Punct mark.Question ∷ (is ++ kind.Punct mark.Colon ∷ js))
+    (tree.choice t u v no_span)
 choose {ks} {is} {js} {t} {u} {v} x y w = record {
   each = λ ls a e.
       let tail = is ++ kind.Punct mark.Colon ∷ js in
-      let g = got_end (kind.Punct mark.Question) (tail ++ ls) a x (e ∙ append_assoc ks (kind.Punct mark.Question ∷ tail) ls) in
-      let p = got_end (kind.Punct mark.Colon) (js ++ ls) g.rest y (g.rest_kinds ∙ append_assoc is (kind.Punct mark.Colon ∷ js) ls) in
+      let g = got_end (kind.Punct mark.Question) (tail ++ ls) a x
+      (e ∙ append_assoc ks (kind.Punct mark.Question ∷ tail) ls) in
+      let p = got_end (kind.Punct mark.Colon) (js ++ ls) g.rest y
+      (g.rest_kinds ∙ append_assoc is (kind.Punct mark.Colon ∷ js) ls) in
       let o = w.each ls p.rest p.rest_kinds in
       let found = chosen g.found p.found o.found in
       let need = g.need + suc (p.need + o.need) in
@@ -415,11 +433,14 @@ choose {ks} {is} {js} {t} {u} {v} x y w = record {
         need = need;
         found = found;
         is_bare = ap (λ q. tree.choice q (bare p.found) (bare o.found) no_span) g.is_bare
-            ∙ ap (λ q. tree.choice t q (bare o.found) no_span) p.is_bare ∙ ap (λ q. tree.choice t u q no_span) o.is_bare;
+            ∙ ap (λ q. tree.choice t q (bare o.found) no_span) p.is_bare
+            ∙ ap (λ q. tree.choice t u q no_span) o.is_bare;
         reads = λ r l.
             let d = g.reads r (omega arith) in
-            at_suc (λ j. (r ≤ j + g.need) → Reads (Binary weakest) r a j ((kind.Punct mark.Question, g.span) ∷ g.rest) g.found
-            → (m : ℕ) × (r ≤ m + need) × Reads Conditional r a m o.rest found) (p.need + o.need) d.0 (omega (arith, d.1, l))
+            at_suc (λ j. (r ≤ j + g.need) → Reads (Binary weakest) r a j
+            ((kind.Punct mark.Question, g.span) ∷ g.rest) g.found
+            → (m : ℕ) × (r ≤ m + need) × Reads Conditional r a m o.rest found) (p.need + o.need) d.0
+            (omega (arith, d.1, l))
             (λ j low b f.
             let d2 = p.reads j (omega arith) in
             let d3 = o.reads d2.0 (omega (arith, d2.1, low)) in
@@ -456,7 +477,8 @@ argument_format w = record {
         need = 0;
         found = by_format w h.span;
         is_bare = refl;
-        reads = λ r l. subst (λ q. Argument r q h.tail (by_format w h.span)) (sym h.consists) Argument.format;
+        reads = λ r l. subst (λ q. Argument r q h.tail (by_format w h.span))
+            (sym h.consists) Argument.format;
       };
 }
 
@@ -474,7 +496,8 @@ argument_address {ks} x = record {
         found = by_address g.found;
         is_bare = ap by_address g.is_bare;
         reads = λ r l. subst (λ q. Argument r q g.rest (by_address g.found)) (sym h.consists)
-            (at_suc (λ i. Argument i ((kind.Punct mark.And, h.span) ∷ h.tail) g.rest (by_address g.found)) g.need r l
+            (at_suc (λ i. Argument i ((kind.Punct mark.And, h.span) ∷ h.tail) g.rest
+            (by_address g.found)) g.need r l
             (λ q low. Argument.address (g.reads q low).2));
       };
 }
@@ -496,12 +519,14 @@ arguments_last x = record {
 }
 
 -- an argument, a comma and others
-pub arguments_more : {ks js : List TokenKind} {g : Given} {gs : List Given} → Formed Argument bare_given ks g
+pub arguments_more : {ks js : List TokenKind} {g : Given} {gs : List Given}
+    → Formed Argument bare_given ks g
     → Formed Arguments (map bare_given) js gs
     → Formed Arguments (map bare_given) (ks ++ kind.Punct mark.Comma ∷ js) (g ∷ gs)
 arguments_more {ks} {js} {g = given} x y = record {
   each = λ ls a e.
-      let g = got_then (kind.Punct mark.Comma) (js ++ ls) a x (e ∙ append_assoc ks (kind.Punct mark.Comma ∷ js) ls) in
+      let g = got_then (kind.Punct mark.Comma) (js ++ ls) a x
+      (e ∙ append_assoc ks (kind.Punct mark.Comma ∷ js) ls) in
       let h = y.each ls g.rest g.rest_kinds in
       record {
         rest = h.rest;

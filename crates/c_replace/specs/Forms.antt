@@ -1,6 +1,5 @@
 -- Parts of a program other than expressions, by the kinds of their tokens alone: all tokens of some
--- kinds are the same part, but for
--- spans.
+-- kinds are the same part, but for spans.
 use Rattle.std.specs.Prelude.{◌≡◌, ℕ, ◌≤◌, List, ◌++◌}
 use Rattle.c_lex.specs.declared.token.TokenKind.{TokenKind}
 use Rattle.c_lex.specs.Lexemes.{kinds}
@@ -9,8 +8,7 @@ use Rattle.c_grammar.specs.Grammar.{Tokens, Given, by_value, by_format, by_addre
 use Rattle.c_grammar.specs.Programs.{Derives}
 
 -- Where there is room, a part is read from the tokens a on, and tokens of the kinds ls are left. It is
--- x but for what `bare` leaves
--- out. R is the relation of the grammar by which it is read.
+-- x but for what `bare` leaves out. R is the relation of the grammar by which it is read.
 pub record Got {X : Type 0} (R : ℕ → Tokens → Tokens → X → Type 0) (bare : X → X) (ls : List TokenKind)
     (a : Tokens) (x : X) : Type 0 where
   pub rest : Tokens

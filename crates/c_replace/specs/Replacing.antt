@@ -33,9 +33,9 @@ abbrev pub Fits : LocKind → List TokenKind → Part → Type 0
 Fits Right ks (expression e) = Shaped Assignment ks (bare e)
 Fits _ ks part = IsPart ks part
 
--- The tokens of a location in those of a program. They cover its text, and are the part that stands there.
--- Where others stand in their place that are what a rewrite makes of the part, the tokens are the program
--- rewritten at the location.
+-- The tokens of a location in those of a program. They cover its text, and are the part that stands
+-- there. Where others stand in their place that are what a rewrite makes of the part, the tokens are
+-- the program rewritten at the location.
 pub record Replaceable (l : Loc) (p : List Outer) (a : Tokens) : Type 0 where
   pub before : Tokens
   pub own : Tokens
@@ -81,9 +81,10 @@ guarded_kinds test old = kind.Punct mark.OpenBrace ∷ kind.Word key.If ∷ kind
 -- Where tokens of the kinds ks stand between those before a location and those after it, they are the
 -- program with that change at the location.
 abbrev pub Becomes : Loc → List Outer → List TokenKind → List TokenKind → List TokenKind → Rewrite → Type 0
-Becomes l p before after ks change = ShapedProgram (before ++ (ks ++ after)) (bare_program (rewritten l change p))
+Becomes l p before after ks change =
+    ShapedProgram (before ++ (ks ++ after)) (bare_program (rewritten l change p))
 
--- what each change of a patch needs in the place of a location whose own tokens are of the kinds `own`
+-- what each change of a patch puts in the place of a location, whose own tokens are of the kinds `own`
 pub record ReplaceableBy (l : Loc) (p : List Outer) (before own after : List TokenKind) : Type 0 where
   pub condition : l.kind ≡ Cond → (ks : List TokenKind) (new : Tree) → Shaped Expression ks (bare new)
       → Becomes l p before after ks (replaced new)

@@ -12,9 +12,9 @@ use Rattle.c_tree.specs.Tree.{Tree, bare}
 use Rattle.c_grammar.specs.declared.part.Part.{Part}
 use Rattle.c_grammar.specs.Grammar.{Tokens, Reads}
 
--- Where there is room, an expression of the kind N is read from the tokens a on, and tokens of the kinds
--- ls are left. It is t but for spans, slots and the spelling of constants. No more room is taken than is
--- needed.
+-- Where there is room, an expression of the kind N is read from the tokens a on, and tokens of the
+-- kinds ls are left. It is t but for spans, slots and the spelling of constants. No more room is taken
+-- than is needed.
 pub record GotTree (N : Part) (ls : List TokenKind) (a : Tokens) (t : Tree) : Type 0 where
   pub rest : Tokens
   pub rest_kinds : kinds rest ≡ ls
@@ -50,8 +50,7 @@ is_whole (tree.hole_after t) = false
 is_whole _ = true
 
 -- The tokens from a down to b are the expression's own: they cover its text, the last is no `?`, and
--- all tokens of their kinds
--- are the same expression.
+-- all tokens of their kinds are the same expression.
 pub record Own (N : Part) (a b : Tokens) (t : Tree) : Type 0 where
   pub own : Tokens
   pub splits : a ≡ own ++ b
