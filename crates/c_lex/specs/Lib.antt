@@ -11,3 +11,4 @@ pub mod Directives
 pub mod Tokens
 pub mod DirectiveReading
 pub mod Laws
+pub mod FaultWords

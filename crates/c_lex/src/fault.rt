@@ -2,50 +2,82 @@
 
 ghost use Rattle.std.specs.Prelude.{◌≡◌};
 ghost use Rattle.c_lex.specs.declared.fault.LexFault.TheVariants as lex;
+ghost use Rattle.c_lex.specs.FaultWords.{place_of, words_of};
 
 use std::alloc::{AllocError, AllocFailed};
 use thiserror::Error;
 
 /// Why a text has no tokens, with the place of its first fault, or none were made.
 #[derive(Clone, Copy, Debug, PartialEq, Eq, Error)]
+#[error("{}", self.words())]
 pub enum LexFault {
     /// A byte that begins no token.
-    #[error("stray byte")]
     StrayByte(u32),
     /// A `/*` without a `*/` (C11 6.4.9).
-    #[error("comment is not closed")]
     OpenComment(u32),
     /// An opening quote without a closing one on its line (C11 6.4.4.4, 6.4.5).
-    #[error("literal is not closed")]
     OpenLiteral(u32),
     /// A number that is no integer constant without a suffix, a character constant that isn't one character, or a
     /// string literal with a faulty escape sequence.
-    #[error("bad constant")]
     BadConstant(u32),
     /// An integer constant above 2,147,483,647.
-    #[error("constant too large")]
     ConstantTooLarge(u32),
-    /// A `#` behind the first token.
-    #[error("directive after the first declaration")]
+    /// A `#` after the first token.
     DirectiveLate(u32),
     /// A directive of another form than `#include` of <stdio.h> or <stdlib.h> and `#define` of a number.
-    #[error("unknown directive")]
     DirectiveUnknown(u32),
     /// A `#define` of a macro that is defined already.
-    #[error("macro defined twice")]
     MacroTwice(u32),
     /// A digraph (C11 6.4.6).
-    #[error("digraph")]
     Digraph(u32),
     /// A backslash at the end of its line.
-    #[error("line splice")]
     LineSplice(u32),
     /// A trigraph (C11 5.2.1.1).
-    #[error("trigraph")]
     Trigraph(u32),
     /// The allocator had no memory left. No clause says when this comes.
-    #[error("out of memory")]
     NoMemory,
+}
+
+impl LexFault {
+    /// The place of the fault, the number of its first byte; out of memory has none.
+    pub fn place(&self) -> Option<u32>
+        ensures { result ≡ place_of self.now }
+    {
+        match *self {
+            LexFault::StrayByte(place)
+            | LexFault::OpenComment(place)
+            | LexFault::OpenLiteral(place)
+            | LexFault::BadConstant(place)
+            | LexFault::ConstantTooLarge(place)
+            | LexFault::DirectiveLate(place)
+            | LexFault::DirectiveUnknown(place)
+            | LexFault::MacroTwice(place)
+            | LexFault::Digraph(place)
+            | LexFault::LineSplice(place)
+            | LexFault::Trigraph(place) => Some(place),
+            LexFault::NoMemory => None,
+        }
+    }
+
+    /// What is wrong at the place, in words.
+    pub fn words(&self) -> &'static str
+        ensures { result.now ≡ words_of self.now }
+    {
+        match self {
+            LexFault::StrayByte(_) => "stray byte",
+            LexFault::OpenComment(_) => "comment is not closed",
+            LexFault::OpenLiteral(_) => "literal is not closed",
+            LexFault::BadConstant(_) => "bad constant",
+            LexFault::ConstantTooLarge(_) => "constant too large",
+            LexFault::DirectiveLate(_) => "directive after the first declaration",
+            LexFault::DirectiveUnknown(_) => "unknown directive",
+            LexFault::MacroTwice(_) => "macro defined twice",
+            LexFault::Digraph(_) => "digraph",
+            LexFault::LineSplice(_) => "line splice",
+            LexFault::Trigraph(_) => "trigraph",
+            LexFault::NoMemory => "out of memory",
+        }
+    }
 }
 
 impl From<AllocError> for LexFault {

@@ -1,4 +1,4 @@
-mod WalkLemmas
+mod SpanLemmas
 mod TallyLemmas
 mod Places
 mod Elsewhere
@@ -6,3 +6,6 @@ mod Rises
 mod Sound
 mod InOrder
 mod Found
+mod WalkLemmas
+mod PartLemmas
+mod ChangeLemmas

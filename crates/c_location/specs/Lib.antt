@@ -5,3 +5,4 @@ pub mod OnePlace
 pub mod Laws
 pub mod Faults
 pub mod Tally
+pub mod Shown

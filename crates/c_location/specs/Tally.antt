@@ -1,6 +1,7 @@
 -- Locations that are counted, of which the first few are kept.
 use Rattle.std.specs.Prelude.{ℕ, ◌+◌, nat_lt, cond, min, List, [], ◌∷◌, ◌++◌, length}
 use Rattle.c_tree.specs.declared.place.Loc.{Loc}
+use Rattle.c_location.specs.Locations.{Located}
 
 -- the locations that are kept, and how many were found
 pub record Found : Type 0 where
@@ -15,9 +16,9 @@ with_one f l = record {
 }
 
 -- more locations are found, in this order
-abbrev pub with_all : Found → List Loc → Found
+abbrev pub with_all : Found → List Located → Found
 with_all f [] = f
-with_all f (l ∷ ls) = with_all (with_one f l) ls
+with_all f (x ∷ xs) = with_all (with_one f x.loc) xs
 
 -- nothing is found yet
 abbrev pub none_found : Found

@@ -6,6 +6,8 @@ mod change;
 mod fault;
 mod laws;
 mod list;
+mod part;
+mod rewrite;
 mod tally;
 mod walk;
 
@@ -15,3 +17,5 @@ pub use laws::{
     each_names_one_place, locations_rise, nothing_elsewhere, one_location_at_each_byte,
 };
 pub use list::locations;
+pub use part::{Part, is_at, part_at};
+pub use rewrite::change_at;

@@ -4,7 +4,6 @@ ghost use Rattle.std.specs.Prelude.{◌≡◌, ◌≤◌, length, IfOk, IfErr};
 ghost use Rattle.c_tree.specs.Views.{program as tree_program};
 ghost use Rattle.c_location.specs.Locations.{locations as locations_of};
 ghost use Rattle.c_location.specs.Faults.{Causes};
-ghost use Rattle.c_location.specs.Changes.{rewrite_of};
 
 use crate::fault::LocFault;
 use crate::tally::{LIMIT, Tally};

@@ -5,7 +5,7 @@ ghost use Rattle.std.specs.Prelude.{◌≡◌, ◌∷◌, [], map, OnOk};
 ghost use Rattle.std.specs.List.{flat_map};
 ghost use Rattle.c_tree.specs.Tree.{Args, Body};
 ghost use Rattle.c_tree.specs.Views.{tree, args_of, with_arg, trees, tree_option, initial, variables, first, code, body_of, with_item, outer, program as tree_program};
-ghost use Rattle.c_location.specs.Locations.{assigned, in_tree, in_args, in_condition, in_right_side, in_test, in_step, in_value, in_initial, in_variables, in_first, in_code, in_body, in_outer, locations};
+ghost use Rattle.c_location.specs.Locations.{assigned, in_tree, in_args, in_condition, in_right_side, in_test, in_step, in_value, in_initial, in_variables, in_first, in_code, in_body, in_outer, located};
 ghost use Rattle.c_location.specs.Tally.{with_all};
 
 use crate::tally::Tally;
@@ -235,7 +235,7 @@ fn add_external(found: &mut Tally, external: &External) -> Result<(), NoMemory>
 
 /// The locations in what stands at file scope.
 fn add_externals(found: &mut Tally, externals: &[External]) -> Result<(), NoMemory>
-    ensures { OnOk result (found.new ≡ with_all found.old (locations (map outer externals.now))) }
+    ensures { OnOk result (found.new ≡ with_all found.old (located (map outer externals.now))) }
 {
     for external in externals {
         add_external(found, external)?;
@@ -245,7 +245,7 @@ fn add_externals(found: &mut Tally, externals: &[External]) -> Result<(), NoMemo
 
 /// The locations of the program.
 pub fn add_program(found: &mut Tally, program: &Program) -> Result<(), NoMemory>
-    ensures { OnOk result (found.new ≡ with_all found.old (locations (tree_program program.now))) }
+    ensures { OnOk result (found.new ≡ with_all found.old (located (tree_program program.now))) }
 {
     add_externals(found, &program.externals)
 }

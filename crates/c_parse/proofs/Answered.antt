@@ -5,6 +5,7 @@ use Rattle.c_tree.specs.Views.{program}
 use Rattle.c_grammar.specs.Grammar.{Tokens}
 use Rattle.c_grammar.specs.Programs.{Derives}
 use Rattle.c_grammar.specs.Judge.{Verdict, good, unexpected_at, too_deep_at, Judged, judge}
+use Rattle.c_grammar.proofs.TooDeep.{deep_passes}
 use Rattle.c_grammar.proofs.Verdicts.{judge_ok, judge_is}
 use Rattle.c_parse.specs.declared.fault.ParseFault.{ParseFault}
 use Rattle.c_parse.specs.declared.fault.ParseFault.TheVariants.{Unexpected, TooDeep, NoMemory}
@@ -30,7 +31,7 @@ refused_by end a (good q) (Err (TooDeep at)) j s = absurd (cc)
 refused_by end a (unexpected_at b) (Err (Unexpected at)) j s = let h : Unexpected at ≡ Unexpected (place_of end b) = s (λ e. absurd (cc)) in (b, cc, j)
 refused_by end a (unexpected_at b) (Err (TooDeep at)) j s = let h : TooDeep at ≡ Unexpected (place_of end b) = s (λ e. absurd (cc)) in absurd (cc)
 refused_by end a (too_deep_at b) (Err (Unexpected at)) j s = let h : Unexpected at ≡ TooDeep (place_of end b) = s (λ e. absurd (cc)) in absurd (cc)
-refused_by end a (too_deep_at b) (Err (TooDeep at)) j s = let h : TooDeep at ≡ TooDeep (place_of end b) = s (λ e. absurd (cc)) in (b, cc, j)
+refused_by end a (too_deep_at b) (Err (TooDeep at)) j s = let h : TooDeep at ≡ TooDeep (place_of end b) = s (λ e. absurd (cc)) in (b, cc, deep_passes 64 a b j)
 
 -- what is read is derived
 pub derived : (end : ℕ) (a : Tokens) (r : Result Program ParseFault) → Says end (judge 64 a) r → IfOk r (λ p. Derives 64 a (program p))

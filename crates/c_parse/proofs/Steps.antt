@@ -24,15 +24,15 @@ under-suc r a some = let e : r ≡ suc (r - 1) = omega arith in ap (λ n. under 
 
 -- ---- blocks
 
--- behind the `}` of a block
+-- after the `}` of a block
 abbrev braced : Span → Body → Span → Reader Code
 braced s x e q d = found (tree.block x (over s e)) q d
 
--- behind its items
+-- after its items
 abbrev itemised : ℕ → Span → Body → Reader Code
 itemised r s x n c = and_then (expected is_close_brace r c) (braced s x)
 
--- behind its `{`
+-- after its `{`
 abbrev opening : ℕ → Span → Reader Code
 opening r s m b = and_then (items (under r) m b) (itemised r s)
 
@@ -56,23 +56,23 @@ block_found {s} {x = x} r a h k l = ap (λ o. and_then o (opening r)) h ∙ ap (
 
 -- ---- `if`
 
--- behind the second arm
+-- after the second arm
 abbrev second : ℕ → Span → Tree → Code → Code → Reader Code
 second r s t y z q d = found (tree.if_else t y z (over s (code_span z))) r d
 
--- behind the `else`
+-- after the `else`
 abbrev other : ℕ → Span → Tree → Code → Span → Reader Code
 other r s t y e n c = and_then (under r c) (second r s t y)
 
--- behind the first arm
+-- after the first arm
 abbrev first : ℕ → Span → Tree → Code → Reader Code
 first r s t y q d = otherwise_by (under r) r (is_else (front d)) s t y q d
 
--- behind the test
+-- after the test
 abbrev test : ℕ → Span → Tree → Reader Code
 test r s t n c = and_then (under r c) (first r s t)
 
--- behind the `if`
+-- after the `if`
 abbrev choice : ℕ → Span → Reader Code
 choice r s m b = and_then (tested m b) (test r s)
 
@@ -87,11 +87,11 @@ branch_fails {s} {q = q} {d = d} {t = t} {y = y} r a e w h1 h2 h3 h4 h5 h6 =
 
 -- ---- the body of a function
 
--- behind the `}` of a function's body
+-- after the `}` of a function's body
 abbrev shut : Body → Span → Reader (Body × Span)
 shut x e q d = found (x, e) q d
 
--- behind the items of a function's body
+-- after the items of a function's body
 abbrev closed : ℕ → Body → Reader (Body × Span)
 closed r x n c = and_then (expected is_close_brace r c) (shut x)
 
@@ -110,7 +110,7 @@ brace_steps false r a = refl
 body-steps : (r : ℕ) (a : Tokens) → body r a ≡ body_steps r a
 body-steps r a = brace_steps (is_open_brace (front a)) r a
 
--- behind its `{`
+-- after its `{`
 abbrev unfolded : ℕ → Span → Reader (Body × Span)
 unfolded r s m b = and_then (items (under r) m b) (closed r)
 

@@ -34,17 +34,17 @@ stops NoMemory b f = refl
 
 -- ---- operators
 
--- Some operators with their operands are read: what all of them come to is what the others come to behind the expression t.
+-- Some operators with their operands are read: what all of them come to is what the others come to after the expression t.
 pub record OperatorsRead (self : Part → Reader Read) (j : ℕ) (whole : Reading Read) (n : ℕ) (t : Read) (m : ℕ) (b : Tokens) : Type 0 where
   pub so_far : whole ≡ operators self n j t m b
 
 module _ {self : Part → Reader Read} {j : ℕ} {whole : Reading Read} {t : Read} {m : ℕ} {b : Tokens}
     (n at : ℕ) (more : at < n) (k : OperatorsRead self j whole (n - at) t m b) where
-  -- behind the operand of an operator
+  -- after the operand of an operator
   abbrev operand : BinOp → Read → Reader Read
   operand f u q d = operators self (n - (at + 1)) j (joined f t.0 u.0, false) q d
 
-  -- behind an operator
+  -- after an operator
   abbrev operator : BinOp → Span → Reader Read
   operator f s p c = and_then (self (Binary j) p c) (operand f)
 
@@ -85,11 +85,11 @@ pub record CommasRead (self : Part → Reader Read) (whole : Reading Read) (n : 
 
 module _ {self : Part → Reader Read} {whole : Reading Read} {t : Read} {m : ℕ} {b : Tokens}
     (n at : ℕ) (more : at < n) (k : CommasRead self whole (n - at) t m b) where
-  -- behind the operand of a comma
+  -- after the operand of a comma
   abbrev right : Read → Reader Read
   right u q d = commas self (n - (at + 1)) (followed t.0 u.0, false) q d
 
-  -- behind a comma
+  -- after a comma
   abbrev comma : Span → Reader Read
   comma s p c = and_then (self Assignment p c) right
 
@@ -153,15 +153,15 @@ list_begins {ends = ends} {part} {xs} {n} {r} {a} p q = record {
 
 module _ {A : Type 0} {ends : Lead → Bool} {part : Tokens → Reading A} {whole : Reading (List A)} {xs : List A} {r : ℕ} {a : Tokens}
     (n at : ℕ) (more : at < n) (k : ListRead ends part whole xs (n - at) r a) where
-  -- the parts behind a comma
+  -- the parts after a comma
   abbrev others : ℕ → Tokens → Reading (List A)
   others = listed ends part (n - (at + 1))
 
-  -- behind a comma
+  -- after a comma
   abbrev separated : A → Span → Reader (List A)
   separated x s q c = behind_comma ends part (ends (front c)) others x q c
 
-  -- behind a part
+  -- after a part
   abbrev parted : A → Reader (List A)
   parted x m b = listed_by ends part (is_comma (front b)) others x m b
 
@@ -193,13 +193,13 @@ module _ {A : Type 0} {ends : Lead → Bool} {part : Tokens → Reading A} {whol
   separated_turn x m b s q d z h c t e =
       part_turn x m b true h c ∙ ap (λ o. ahead xs (and_then o (separated x))) t ∙ ap (λ z. ahead xs (behind_comma ends part z others x q d)) e
 
-  -- behind the comma the list ends
+  -- after the comma the list ends
   pub comma_ends : {ys : List A} {x : A} {m q : ℕ} {b d : Tokens} {s : Span} → part a ≡ found x m b → is_comma (front b) ≡ true → taken m b ≡ found s q d
       → ends (front d) ≡ true → ys ≡ xs ++ x ∷ []
       → whole ≡ found ys q d
   comma_ends {x = x} {m} {q} {b} {d} {s} h c t e p = separated_turn x m b s q d true h c t e ∙ ap (λ z. found z q d) (sym p)
 
-  -- behind the comma the list goes on
+  -- after the comma the list goes on
   pub comma_goes : {ys : List A} {x : A} {m q : ℕ} {b d : Tokens} {s : Span} → part a ≡ found x m b → is_comma (front b) ≡ true → taken m b ≡ found s q d
       → ends (front d) ≡ false → ys ≡ xs ++ x ∷ []
       → ListRead ends part whole ys (n - (at + 1)) q d
@@ -250,7 +250,7 @@ items_begin {self} {x} {n} {r} {a} p q = record {
 
 module _ {self : Tokens → Reading Code} {whole : Reading Body} {x : Body} {r : ℕ} {a : Tokens}
     (n at : ℕ) (more : at < n) (k : ItemsRead self whole x (n - at) r a) where
-  -- behind an item
+  -- after an item
   abbrev itemised : Body → Reader Body
   itemised y m b = before y (items_within self (n - (at + 1)) r b)
 
@@ -296,7 +296,7 @@ externals_begin {xs} {n} {r} {a} p q = record {
 }
 
 module _ {whole : Reading (List Outer)} {xs : List Outer} {r : ℕ} {a : Tokens} (n at : ℕ) (more : at < n) (k : ExternalsRead whole xs (n - at) r a) where
-  -- behind one of it
+  -- after one of it
   abbrev outermost : Outer → Reader (List Outer)
   outermost x m b = externals_by (is_end (front b)) (externals (n - (at + 1))) x m b
 

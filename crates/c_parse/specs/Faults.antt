@@ -3,6 +3,7 @@ use Rattle.std.specs.Prelude.{◌≡◌, ◌≢◌, ℕ, ◌≤◌, [], ◌∷�
 use Rattle.c_tree.specs.declared.program.Program.{Program}
 use Rattle.c_tree.specs.Views.{program}
 use Rattle.c_grammar.specs.Grammar.{Tokens}
+use Rattle.c_grammar.specs.BegunNesting.{Passes}
 use Rattle.c_grammar.specs.Judge.{Verdict, good, unexpected_at, too_deep_at, Judged}
 use Rattle.c_parse.specs.declared.fault.ParseFault.{ParseFault}
 use Rattle.c_parse.specs.declared.fault.ParseFault.TheVariants.{Unexpected, TooDeep, NoMemory}
@@ -12,10 +13,11 @@ abbrev pub place_of : ℕ → Tokens → ℕ
 place_of end [] = end
 place_of end ((k, s) ∷ a) = s.from
 
--- why tokens have no tree: at the place begins their first fault
+-- why tokens have no tree: at the place begins their first fault, a token with which nothing is a program, or one at
+-- which the nesting is 65
 abbrev pub Causes : ℕ → Tokens → ParseFault → Type 0
 Causes end a (Unexpected at) = (b : Tokens) × (at ≡ place_of end b) × Judged 64 a (unexpected_at b)
-Causes end a (TooDeep at) = (b : Tokens) × (at ≡ place_of end b) × Judged 64 a (too_deep_at b)
+Causes end a (TooDeep at) = (b : Tokens) × (at ≡ place_of end b) × Passes 64 a b
 Causes end a NoMemory = Unit {0}
 
 -- the place of a fault is at most the length of the source

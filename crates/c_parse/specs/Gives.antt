@@ -1,4 +1,4 @@
--- What a function that reads ensures: what the descent comes to, unless memory fails.
+-- What a function that parses ensures: what the descent comes to, unless memory fails.
 use Rattle.std.specs.Prelude.{◌≡◌, ◌≢◌, ℕ, ℤ, suc, Bool, List, map, Option, Result, Ok, Err, Vec}
 use Rattle.std.specs.declared.alloc.Global.{Global}
 use denote.Ref.{MutBor}
@@ -17,8 +17,9 @@ use Rattle.c_tree.specs.Tree.{Tree, Variable, First, Body, Outer}
 use Rattle.c_tree.specs.Views.{node_tree, tree, tree_option, trees, variables, first, with_item, body_of, outer}
 use Rattle.c_grammar.specs.declared.part.Part.{Part}
 use Rattle.c_grammar.specs.Grammar.{Tokens, Given, by_value, by_format, by_address}
-use Rattle.c_grammar.specs.Descent.{Reading, found, unexpected, too_deep, Read, run}
+use Rattle.c_grammar.specs.Descent.{Reading, found, unexpected, too_deep, Reader, Read, run}
 use Rattle.c_parse.specs.declared.cursor.Cursor.{Cursor}
+use Rattle.c_parse.specs.declared.expression.ExpressionParser.{ExpressionParser}
 use Rattle.c_parse.specs.declared.fault.Stop.{Stop}
 use Rattle.c_parse.specs.declared.fault.Stop.TheVariants.{Unexpected, TooDeep, NoMemory}
 
@@ -28,10 +29,14 @@ stopped Unexpected b = unexpected b
 stopped TooDeep b = too_deep b
 stopped NoMemory b = unexpected b
 
--- the result is what the descent finds, seen as a plain tree, and the cursor stands behind it, or at the fault
+-- the result is what the descent finds, seen as a plain tree, with the room and the tokens after it; or it is the fault
 abbrev pub Gives : {X A : Type 0} → (X → A) → Reading A → Result X Stop → ℕ → Tokens → Type 0
 Gives view o (Ok x) m b = o ≡ found (view x) m b
 Gives view o (Err e) m b = e ≢ NoMemory → o ≡ stopped e b
+
+-- the result is what the reader finds at the cursor, seen as a plain tree, and the cursor is then after it, or at the fault
+abbrev pub Parses : {X A : Type 0} → (X → A) → Reader A → Cursor → Result X Stop → Cursor → Type 0
+Parses view reader before result after = Gives view (reader before.room before.rest.now) result after.room after.rest.now
 
 -- ---- how results are seen
 
@@ -39,11 +44,11 @@ Gives view o (Err e) m b = e ≢ NoMemory → o ≡ stopped e b
 abbrev pub itself : {A : Type 0} → A → A
 itself x = x
 
--- a text and its span: the bytes and the span
+-- a text and its span: its bytes and its span
 abbrev pub named : List ℕ × Span → List ℕ × Span
 named x = x
 
--- a constant: its value, the bytes of its text and the span
+-- a constant: its value, the bytes of its text and its span
 abbrev pub numbered : ℤ × List ℕ × Span → ℤ × List ℕ × Span
 numbered x = x
 
@@ -61,7 +66,7 @@ given (Address' e s) = by_address (node_tree e s)
 abbrev pub givens : Vec Arg Global → List Given
 givens v = map given v.items
 
--- the elements of an initialiser list
+-- the elements of an initializer list
 abbrev pub elements : Vec Expr Global → List Tree
 elements v = trees v.items
 
@@ -77,7 +82,7 @@ typed x = (x.0, declared x.1)
 abbrev pub clauses : Init × Option Expr × Option Expr → First × Option Tree × Option Tree
 clauses x = (first x.0, tree_option x.1, tree_option x.2)
 
--- the test of a `do`, and the text of its `;`
+-- the condition of a `do`, and the span of its `;`
 abbrev pub ended : Expr × Span → Tree × Span
 ended x = (tree x.0, x.1)
 
@@ -89,7 +94,7 @@ alone i = with_item i plain.done
 abbrev pub body : Vec Item Global → Body
 body v = body_of v.items
 
--- the items of a function's body, and the text of its `}`
+-- the items of a function's body, and the span of its `}`
 abbrev pub closed_body : Vec Item Global × Span → Body × Span
 closed_body x = (body x.0, x.1)
 
@@ -97,16 +102,19 @@ closed_body x = (body x.0, x.1)
 abbrev pub params : Vec Param Global → List Param
 params v = v.items
 
--- what stands at file scope
+-- external declarations
 abbrev pub outers : Vec External Global → List Outer
 outers v = map outer v.items
 
--- ---- readers of smaller parts
+-- ---- parsers of the parts after an opener
 
--- A function value that reads the parts of expressions to a depth; the turns of a loop are one more.
-pub record Nests (depth turns : ℕ) (pre : Global → MutBor Cursor → ℕ → Part → Type 0)
-    (post : Global → MutBor Cursor → ℕ → Part → Result (Expr × Bool) Stop → MutBor Cursor → Type 0) : Type 0 where
-  pub counted : turns ≡ suc depth
-  pub callable : (alloc : Global) (old : MutBor Cursor) (part : Part) → pre alloc old depth part
-  pub reads : (alloc : Global) (old new : MutBor Cursor) (part : Part) (r : Result (Expr × Bool) Stop) → post alloc old depth part r new
-      → Gives marked (run depth part old.now.room old.now.rest.now) r new.now.room new.now.rest.now
+-- The parser of parts that an expression parser takes: it may always be called at the parser's depth, and then gives what the descent
+-- comes to. The turns are one more than the depth.
+pub record ReadsParts {F : Type 0} (pre : F → Global → MutBor Cursor → ℕ → Part → Type 0)
+    (post : F → Global → MutBor Cursor → ℕ → Part → Result (Expr × Bool) Stop → MutBor Cursor → Type 0)
+    (p : ExpressionParser F) : Type 0 where
+  pub counted : p.turns ≡ suc p.depth
+  pub callable : (alloc : Global) (old : MutBor Cursor) (part : Part) → pre p.parse_part alloc old p.depth part
+  pub reads : (alloc : Global) (old new : MutBor Cursor) (part : Part) (r : Result (Expr × Bool) Stop)
+      → post p.parse_part alloc old p.depth part r new
+      → Parses marked (run p.depth part) old.now r new.now

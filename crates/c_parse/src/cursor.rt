@@ -1,12 +1,13 @@
-//! The tokens that are left to read, and the room for openers.
+//! A cursor over the tokens: what comes next, and the steps that take it.
 
 ghost use Rattle.std.specs.Prelude.{◌≡◌, IfOk};
 ghost use Rattle.c_grammar.specs.Descent as spec;
 ghost use Rattle.c_grammar.specs.Leads as leads;
 ghost use Rattle.c_grammar.specs.Operators as operators;
-ghost use Rattle.c_grammar.specs.ProgramDescent as descent;
-ghost use Rattle.c_grammar.specs.Grammar.{over as text_over};
-ghost use Rattle.c_parse.specs.Gives.{Gives, itself, named, numbered};
+ghost use Rattle.c_grammar.specs.ProgramDescent as program;
+ghost use Rattle.c_grammar.specs.Grammar.{over};
+ghost use Rattle.c_parse.specs.Gives.{Parses, itself, named, numbered};
+ghost use Rattle.c_parse.specs.Parts as parts;
 
 use crate::fault::Stop;
 use c_grammar::{Lead, lead_of};
@@ -14,7 +15,7 @@ use c_lex::{Token, TokenKind};
 use c_tree::{BinOp, NoMemory, Span, Text, Ty, UnOp};
 use std::alloc::Global;
 
-/// A place among the tokens, and how many more openers may be open there.
+/// The tokens that are left to parse, and the room: how many more openers may be open.
 #[derive(Drop)]
 pub struct Cursor<'a> {
     pub rest: &'a [Token],
@@ -23,7 +24,7 @@ pub struct Cursor<'a> {
 
 impl<'a> Cursor<'a> {
     /// What the next token is to the grammar.
-    pub fn lead(&self) -> Lead
+    pub fn peek(&self) -> Lead
         ensures { result ≡ leads.front self.now.rest.now }
     {
         match self.rest {
@@ -36,157 +37,157 @@ impl<'a> Cursor<'a> {
     pub fn is_at_close_paren(&self) -> bool
         ensures { result ≡ leads.is_close_paren (leads.front self.now.rest.now) }
     {
-        matches!(self.lead(), Lead::CloseParen)
+        matches!(self.peek(), Lead::CloseParen)
     }
 
     /// Whether `[` comes next.
     pub fn is_at_open_bracket(&self) -> bool
         ensures { result ≡ leads.is_open_bracket (leads.front self.now.rest.now) }
     {
-        matches!(self.lead(), Lead::OpenBracket)
+        matches!(self.peek(), Lead::OpenBracket)
     }
 
     /// Whether `}` comes next.
     pub fn is_at_close_brace(&self) -> bool
         ensures { result ≡ leads.is_close_brace (leads.front self.now.rest.now) }
     {
-        matches!(self.lead(), Lead::CloseBrace)
+        matches!(self.peek(), Lead::CloseBrace)
     }
 
     /// Whether `;` comes next.
     pub fn is_at_semicolon(&self) -> bool
         ensures { result ≡ leads.is_semicolon (leads.front self.now.rest.now) }
     {
-        matches!(self.lead(), Lead::Semicolon)
+        matches!(self.peek(), Lead::Semicolon)
     }
 
     /// Whether `,` comes next.
     pub fn is_at_comma(&self) -> bool
         ensures { result ≡ leads.is_comma (leads.front self.now.rest.now) }
     {
-        matches!(self.lead(), Lead::Comma)
+        matches!(self.peek(), Lead::Comma)
     }
 
     /// Whether `?` comes next.
     pub fn is_at_question(&self) -> bool
         ensures { result ≡ leads.is_question (leads.front self.now.rest.now) }
     {
-        matches!(self.lead(), Lead::Question)
+        matches!(self.peek(), Lead::Question)
     }
 
     /// Whether a constant comes next.
     pub fn is_at_constant(&self) -> bool
         ensures { result ≡ leads.is_constant (leads.front self.now.rest.now) }
     {
-        matches!(self.lead(), Lead::Constant)
+        matches!(self.peek(), Lead::Constant)
     }
 
     /// Whether `else` comes next.
     pub fn is_at_else(&self) -> bool
         ensures { result ≡ leads.is_else (leads.front self.now.rest.now) }
     {
-        matches!(self.lead(), Lead::Else)
+        matches!(self.peek(), Lead::Else)
     }
 
     /// Whether `=` comes next.
     pub fn is_at_assign(&self) -> bool
         ensures { result ≡ leads.is_assign (leads.front self.now.rest.now) }
     {
-        matches!(self.lead(), Lead::Assign(None))
+        matches!(self.peek(), Lead::Assign(None))
     }
 
     /// Whether the tokens end.
     pub fn is_at_end(&self) -> bool
         ensures { result ≡ leads.is_end (leads.front self.now.rest.now) }
     {
-        matches!(self.lead(), Lead::End)
+        matches!(self.peek(), Lead::End)
     }
 
-    /// The type that comes next.
-    pub fn type_at(&self) -> Option<Ty>
+    /// The type that comes next, if one does.
+    pub fn peek_type(&self) -> Option<Ty>
         ensures { result ≡ leads.type_at (leads.front self.now.rest.now) }
     {
-        match self.lead() {
+        match self.peek() {
             Lead::Type(ty) => Some(ty),
             _ => None,
         }
     }
 
-    /// Whether `++` comes next, which is true, or `--`.
-    pub fn bump(&self) -> Option<bool>
+    /// Whether `++` comes next, which is `true`, or `--`, if one of them does.
+    pub fn peek_bump(&self) -> Option<bool>
         ensures { result ≡ leads.bump_at (leads.front self.now.rest.now) }
     {
-        match self.lead() {
+        match self.peek() {
             Lead::Bump(up) => Some(up),
             _ => None,
         }
     }
 
-    /// The assignment that comes next, with its operator where it has one.
-    pub fn assignment(&self) -> Option<Option<BinOp>>
+    /// The assignment operator that comes next, if one does: `None` inside stands for `=`.
+    pub fn peek_assignment(&self) -> Option<Option<BinOp>>
         ensures { result ≡ leads.assignment_at (leads.front self.now.rest.now) }
     {
-        match self.lead() {
+        match self.peek() {
             Lead::Assign(op) => Some(op),
             _ => None,
         }
     }
 
-    /// What a function gives whose declaration comes next.
-    pub fn result(&self) -> Option<Option<Ty>>
+    /// The type that a function returns whose declaration comes next: `None` inside stands for `void`.
+    pub fn peek_result_type(&self) -> Option<Option<Ty>>
         ensures { result ≡ leads.result_at (leads.front self.now.rest.now) }
     {
-        match self.lead() {
+        match self.peek() {
             Lead::Type(ty) => Some(Some(ty)),
             Lead::Void => Some(None),
             _ => None,
         }
     }
 
-    /// The operator before an operand that comes next.
-    pub fn prefix(&self) -> Option<UnOp>
+    /// The prefix operator that comes next, if one does (C11 6.5.3.3).
+    pub fn peek_prefix_operator(&self) -> Option<UnOp>
         ensures { result ≡ leads.prefix_at (leads.front self.now.rest.now) }
     {
-        match self.lead() {
+        match self.peek() {
             Lead::Prefix(op) => Some(op),
-            Lead::Binary(op) => before_operand(op),
+            Lead::Binary(op) => as_prefix_operator(op),
             _ => None,
         }
     }
 
-    /// The operator of that rank that comes next.
-    pub fn operator(&self, at: u8) -> Option<BinOp>
+    /// The binary operator of that rank that comes next, if one does.
+    pub fn peek_binary_operator(&self, at: u8) -> Option<BinOp>
         ensures { result ≡ leads.operator_at at (leads.front self.now.rest.now) }
     {
-        match self.lead() {
+        match self.peek() {
             Lead::Binary(op) => { if rank(op) == at { Some(op) } else { None } }
             _ => None,
         }
     }
 
-    /// Whether a conversion comes next.
-    pub fn casts(&self) -> bool
+    /// Whether `(` and a type come next.
+    pub fn is_at_type_cast(&self) -> bool
         ensures { result ≡ leads.casts self.now.rest.now }
     {
-        match self.lead() {
-            Lead::OpenParen => matches!(self.after().lead(), Lead::Type(_)),
+        match self.peek() {
+            Lead::OpenParen => matches!(self.after_next().peek(), Lead::Type(_)),
             _ => false,
         }
     }
 
     /// Whether what comes next can only be a function.
     pub fn is_at_function(&self) -> bool
-        ensures { result ≡ descent.is_func self.now.rest.now }
+        ensures { result ≡ program.is_func self.now.rest.now }
     {
-        match self.lead() {
+        match self.peek() {
             Lead::Void => true,
-            Lead::Type(_) => matches!(self.after().after().lead(), Lead::OpenParen),
+            Lead::Type(_) => matches!(self.after_next().after_next().peek(), Lead::OpenParen),
             _ => false,
         }
     }
 
-    /// The cursor behind the next token.
-    fn after(&self) -> Cursor<'a>
+    /// The cursor after the next token.
+    fn after_next(&self) -> Cursor<'a>
         ensures { result.rest.now ≡ leads.rest self.now.rest.now }
     {
         let rest = match self.rest {
@@ -200,8 +201,8 @@ impl<'a> Cursor<'a> {
     }
 
     /// Takes the next token, whichever it is.
-    pub fn take(&mut self) -> Result<Span, Stop>
-        ensures { Gives itself (spec.taken self.old.room self.old.rest.now) result self.new.room self.new.rest.now }
+    pub fn advance(&mut self) -> Result<Span, Stop>
+        ensures { Parses itself spec.taken self.old result self.new }
     {
         match self.rest {
             [] => Err(Stop::Unexpected),
@@ -214,120 +215,120 @@ impl<'a> Cursor<'a> {
 
     /// Takes the next token as an opener.
     pub fn open(&mut self) -> Result<Span, Stop>
-        ensures { Gives itself (spec.opened self.old.room self.old.rest.now) result self.new.room self.new.rest.now }
+        ensures { Parses itself spec.opened self.old result self.new }
     {
         if self.room == 0 {
             return Err(Stop::TooDeep);
         }
         self.room -= 1;
-        self.take()
+        self.advance()
     }
 
     /// Takes `(`, an opener.
-    pub fn open_paren(&mut self) -> Result<Span, Stop>
-        ensures { Gives itself (spec.entered leads.is_open_paren self.old.room self.old.rest.now) result self.new.room self.new.rest.now }
+    pub fn expect_open_paren(&mut self) -> Result<Span, Stop>
+        ensures { Parses itself (spec.entered leads.is_open_paren) self.old result self.new }
     {
-        match self.lead() {
+        match self.peek() {
             Lead::OpenParen => self.open(),
             _ => Err(Stop::Unexpected),
         }
     }
 
     /// Takes `{`, an opener.
-    pub fn open_brace(&mut self) -> Result<Span, Stop>
-        ensures { Gives itself (spec.entered leads.is_open_brace self.old.room self.old.rest.now) result self.new.room self.new.rest.now }
+    pub fn expect_open_brace(&mut self) -> Result<Span, Stop>
+        ensures { Parses itself (spec.entered leads.is_open_brace) self.old result self.new }
     {
-        match self.lead() {
+        match self.peek() {
             Lead::OpenBrace => self.open(),
             _ => Err(Stop::Unexpected),
         }
     }
 
-    /// Takes `)`, which gives back the room that there was outside.
-    pub fn close_paren(&mut self, outside: u8) -> Result<Span, Stop>
-        ensures { Gives itself (spec.expected leads.is_close_paren outside self.old.rest.now) result self.new.room self.new.rest.now }
+    /// Takes `)`: the room is again the one outside.
+    pub fn expect_close_paren(&mut self, outside: u8) -> Result<Span, Stop>
+        ensures { Parses itself (parts.closed leads.is_close_paren outside) self.old result self.new }
     {
         self.room = outside;
-        match self.lead() {
-            Lead::CloseParen => self.take(),
+        match self.peek() {
+            Lead::CloseParen => self.advance(),
             _ => Err(Stop::Unexpected),
         }
     }
 
-    /// Takes `]`, which gives back the room that there was outside.
-    pub fn close_bracket(&mut self, outside: u8) -> Result<Span, Stop>
-        ensures { Gives itself (spec.expected leads.is_close_bracket outside self.old.rest.now) result self.new.room self.new.rest.now }
+    /// Takes `]`: the room is again the one outside.
+    pub fn expect_close_bracket(&mut self, outside: u8) -> Result<Span, Stop>
+        ensures { Parses itself (parts.closed leads.is_close_bracket outside) self.old result self.new }
     {
         self.room = outside;
-        match self.lead() {
-            Lead::CloseBracket => self.take(),
+        match self.peek() {
+            Lead::CloseBracket => self.advance(),
             _ => Err(Stop::Unexpected),
         }
     }
 
-    /// Takes `}`, which gives back the room that there was outside.
-    pub fn close_brace(&mut self, outside: u8) -> Result<Span, Stop>
-        ensures { Gives itself (spec.expected leads.is_close_brace outside self.old.rest.now) result self.new.room self.new.rest.now }
+    /// Takes `}`: the room is again the one outside.
+    pub fn expect_close_brace(&mut self, outside: u8) -> Result<Span, Stop>
+        ensures { Parses itself (parts.closed leads.is_close_brace outside) self.old result self.new }
     {
         self.room = outside;
-        match self.lead() {
-            Lead::CloseBrace => self.take(),
+        match self.peek() {
+            Lead::CloseBrace => self.advance(),
             _ => Err(Stop::Unexpected),
         }
     }
 
     /// Takes `;`.
-    pub fn semicolon(&mut self) -> Result<Span, Stop>
-        ensures { Gives itself (spec.expected leads.is_semicolon self.old.room self.old.rest.now) result self.new.room self.new.rest.now }
+    pub fn expect_semicolon(&mut self) -> Result<Span, Stop>
+        ensures { Parses itself (spec.expected leads.is_semicolon) self.old result self.new }
     {
-        match self.lead() {
-            Lead::Semicolon => self.take(),
+        match self.peek() {
+            Lead::Semicolon => self.advance(),
             _ => Err(Stop::Unexpected),
         }
     }
 
     /// Takes `:`.
-    pub fn colon(&mut self) -> Result<Span, Stop>
-        ensures { Gives itself (spec.expected leads.is_colon self.old.room self.old.rest.now) result self.new.room self.new.rest.now }
+    pub fn expect_colon(&mut self) -> Result<Span, Stop>
+        ensures { Parses itself (spec.expected leads.is_colon) self.old result self.new }
     {
-        match self.lead() {
-            Lead::Colon => self.take(),
+        match self.peek() {
+            Lead::Colon => self.advance(),
             _ => Err(Stop::Unexpected),
         }
     }
 
     /// Takes `while`.
-    pub fn while_word(&mut self) -> Result<Span, Stop>
-        ensures { Gives itself (spec.expected leads.is_while self.old.room self.old.rest.now) result self.new.room self.new.rest.now }
+    pub fn expect_while(&mut self) -> Result<Span, Stop>
+        ensures { Parses itself (spec.expected leads.is_while) self.old result self.new }
     {
-        match self.lead() {
-            Lead::While => self.take(),
+        match self.peek() {
+            Lead::While => self.advance(),
             _ => Err(Stop::Unexpected),
         }
     }
 
     /// Takes a type.
-    pub fn type_word(&mut self) -> Result<Ty, Stop>
-        ensures { Gives itself (spec.type self.old.room self.old.rest.now) result self.new.room self.new.rest.now }
+    pub fn expect_type(&mut self) -> Result<Ty, Stop>
+        ensures { Parses itself spec.type self.old result self.new }
     {
-        match self.type_at() {
+        match self.peek_type() {
             Some(ty) => {
-                self.take()?;
+                self.advance()?;
                 Ok(ty)
             }
             None => Err(Stop::Unexpected),
         }
     }
 
-    /// Takes a name, with a copy of its text.
-    pub fn name(&mut self, alloc: Global) -> Result<(Text, Span), Stop>
-        ensures { Gives named (spec.name self.old.room self.old.rest.now) result self.new.room self.new.rest.now }
+    /// Takes a name: a copy of its text, and its span.
+    pub fn expect_name(&mut self, alloc: Global) -> Result<(Text, Span), Stop>
+        ensures { Parses named spec.name self.old result self.new }
     {
         match self.rest {
             [token, rest @ ..] => match &token.kind {
                 TokenKind::Name(word) => {
                     self.rest = rest;
-                    Ok((copy(alloc, word)?, token.span))
+                    Ok((copy_text(alloc, word)?, token.span))
                 }
                 _ => Err(Stop::Unexpected),
             },
@@ -335,15 +336,15 @@ impl<'a> Cursor<'a> {
         }
     }
 
-    /// Takes a string literal, with a copy of its characters.
-    pub fn text(&mut self, alloc: Global) -> Result<(Text, Span), Stop>
-        ensures { Gives named (spec.text self.old.room self.old.rest.now) result self.new.room self.new.rest.now }
+    /// Takes a string literal: a copy of its characters, and its span.
+    pub fn expect_string(&mut self, alloc: Global) -> Result<(Text, Span), Stop>
+        ensures { Parses named spec.text self.old result self.new }
     {
         match self.rest {
             [token, rest @ ..] => match &token.kind {
                 TokenKind::Str(word) => {
                     self.rest = rest;
-                    Ok((copy(alloc, word)?, token.span))
+                    Ok((copy_text(alloc, word)?, token.span))
                 }
                 _ => Err(Stop::Unexpected),
             },
@@ -351,15 +352,15 @@ impl<'a> Cursor<'a> {
         }
     }
 
-    /// Takes a constant, with its value and a copy of its text.
-    pub fn constant(&mut self, alloc: Global) -> Result<(i64, Text, Span), Stop>
-        ensures { Gives numbered (spec.constant self.old.room self.old.rest.now) result self.new.room self.new.rest.now }
+    /// Takes a constant: its value, a copy of its text, and its span.
+    pub fn expect_constant(&mut self, alloc: Global) -> Result<(i64, Text, Span), Stop>
+        ensures { Parses numbered spec.constant self.old result self.new }
     {
         match self.rest {
             [token, rest @ ..] => match &token.kind {
                 TokenKind::Const { value, word } => {
                     self.rest = rest;
-                    Ok((*value, copy(alloc, word)?, token.span))
+                    Ok((*value, copy_text(alloc, word)?, token.span))
                 }
                 _ => Err(Stop::Unexpected),
             },
@@ -368,8 +369,8 @@ impl<'a> Cursor<'a> {
     }
 }
 
-/// An operator between two operands as one before an operand (C11 6.5.3.3).
-fn before_operand(op: BinOp) -> Option<UnOp>
+/// The prefix operator that is written like this binary one, if there is one (C11 6.5.3.3).
+fn as_prefix_operator(op: BinOp) -> Option<UnOp>
     ensures { result ≡ leads.binary_prefix op }
 {
     match op {
@@ -398,15 +399,15 @@ fn rank(op: BinOp) -> u8
 }
 
 /// A copy of a text.
-fn copy(alloc: Global, word: &Text) -> Result<Text, NoMemory>
+fn copy_text(alloc: Global, word: &Text) -> Result<Text, NoMemory>
     ensures { IfOk result (λ copy. copy ≡ word.now) }
 {
     Ok(Text::new(word.as_slice().to_vec(alloc)?))
 }
 
-/// The text from the begin of the one to the end of the other.
-pub fn over(first: Span, last: Span) -> Span
-    ensures { result ≡ text_over first last }
+/// The span from the start of the one to the end of the other.
+pub fn span_over(first: Span, last: Span) -> Span
+    ensures { result ≡ over first last }
 {
     Span {
         from: first.from,

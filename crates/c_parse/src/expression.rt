@@ -1,418 +1,465 @@
-//! Expressions (C11 6.5). The parts that stand behind an opener are read by a function that is a parameter.
+//! The parser of expressions (C11 6.5): one method for each rule of the grammar.
 
 ghost use Rattle.std.specs.Prelude.{◌<◌, true, false};
-ghost use Rattle.c_tree.specs.Views.{tree as plain_tree};
+ghost use Rattle.c_tree.specs.Views.{tree};
 ghost use Rattle.c_grammar.specs.Descent as spec;
+ghost use Rattle.c_grammar.specs.Descent.{run};
 ghost use Rattle.c_grammar.specs.Leads as leads;
-ghost use Rattle.c_parse.specs.Gives.{Gives, Nests, marked, given, givens};
+ghost use Rattle.c_grammar.specs.ProgramDescent as program;
+ghost use Rattle.c_parse.specs.Gives.{Parses, ReadsParts, marked, given, givens};
+ghost use Rattle.c_parse.specs.Parts as parts;
 
-use crate::cursor::{Cursor, over};
+use crate::cursor::{Cursor, span_over};
 use crate::fault::Stop;
 use crate::tree::{
-    assigned, bumped_after, bumped_before, call, chosen, constant, converted, element, followed,
-    joined, name, prefixed, wrapped,
+    assign_expr, binary_expr, call_expr, cast_expr, comma_expr, conditional_expr, const_expr,
+    index_expr, name_expr, parenthesized, postfix_bump_expr, prefix_bump_expr, unary_expr,
 };
 use c_grammar::{Lead, Part};
 use c_tree::{Arg, BinOp, Expr, Span, Text, UnOp};
 use std::alloc::Global;
 
-// The rank of `||`.
+/// The rank of `||`, the operator that binds weakest.
 const WEAKEST: u8 = 10;
 
-/// The reader of expressions: `read` reads the parts behind an opener to the depth, and as many operators stand one
-/// after the other as there are turns.
+/// A parser of expressions. `parse_part` parses the parts after an opener, to a given depth of nesting, here `depth`.
+/// At most `turns` operators of one rank may follow one another.
 #[derive(Clone, Copy)]
-pub struct Grammar<F> {
+pub struct ExpressionParser<F> {
     pub alloc: Global,
     pub depth: usize,
     pub turns: usize,
-    pub read: F,
+    pub parse_part: F,
 }
 
-impl<F: Fn(Global, &mut Cursor<'_>, usize, Part) -> Result<(Expr, bool), Stop>> Grammar<F> {
-    /// A part behind an opener.
-    fn smaller(&self, cursor: &mut Cursor<'_>, part: Part) -> Result<(Expr, bool), Stop>
-        requires { Nests self.now.depth self.now.turns (F.pre self.now.read) (F.post self.now.read) }
-        ensures { Gives marked (spec.run self.now.depth part cursor.old.room cursor.old.rest.now) result cursor.new.room cursor.new.rest.now }
+impl<F: Fn(Global, &mut Cursor<'_>, usize, Part) -> Result<(Expr, bool), Stop>> ExpressionParser<
+    F,
+> {
+    /// Parses a part after an opener.
+    fn parse_nested(&self, cursor: &mut Cursor<'_>, part: Part) -> Result<(Expr, bool), Stop>
+        requires { ReadsParts F.pre F.post self.now }
+        ensures { Parses marked (run self.now.depth part) cursor.old result cursor.new }
     {
-        (self.read)(self.alloc, cursor, self.depth, part)
+        (self.parse_part)(self.alloc, cursor, self.depth, part)
     }
 
-    /// An argument that is a value.
-    fn value(&self, cursor: &mut Cursor<'_>) -> Result<Arg, Stop>
-        requires { Nests self.now.depth self.now.turns (F.pre self.now.read) (F.post self.now.read) }
-        ensures { Gives given (spec.value (spec.run self.now.depth) cursor.old.room cursor.old.rest.now) result cursor.new.room cursor.new.rest.now }
+    /// Parses an argument that is a value.
+    fn parse_value_argument(&self, cursor: &mut Cursor<'_>) -> Result<Arg, Stop>
+        requires { ReadsParts F.pre F.post self.now }
+        ensures { Parses given (spec.value (run self.now.depth)) cursor.old result cursor.new }
     {
         let room = cursor.room;
-        let (value, _) = self.smaller(cursor, Part::Assignment)?;
+        let (value, _) = self.parse_nested(cursor, Part::Assignment)?;
         cursor.room = room;
         Ok(Arg::Value(value))
     }
 
-    /// An argument that is a string literal.
-    fn format(&self, cursor: &mut Cursor<'_>) -> Result<Arg, Stop>
-        requires { Nests self.now.depth self.now.turns (F.pre self.now.read) (F.post self.now.read) }
-        ensures { Gives given (spec.format (spec.run self.now.depth) cursor.old.room cursor.old.rest.now) result cursor.new.room cursor.new.rest.now }
+    /// Parses an argument that is a string literal.
+    fn parse_format_argument(&self, cursor: &mut Cursor<'_>) -> Result<Arg, Stop>
+        requires { ReadsParts F.pre F.post self.now }
+        ensures { Parses given (spec.format (run self.now.depth)) cursor.old result cursor.new }
     {
-        let (word, span) = cursor.text(self.alloc)?;
+        let (word, span) = cursor.expect_string(self.alloc)?;
         Ok(Arg::Format(word, span))
     }
 
-    /// An argument that is an address: `&` and a place.
-    fn address(&self, cursor: &mut Cursor<'_>) -> Result<Arg, Stop>
-        requires { Nests self.now.depth self.now.turns (F.pre self.now.read) (F.post self.now.read) }
-        ensures { Gives given (spec.address (spec.run self.now.depth) cursor.old.room cursor.old.rest.now) result cursor.new.room cursor.new.rest.now }
+    /// Parses an argument that is an address: `&` and a place.
+    fn parse_address_argument(&self, cursor: &mut Cursor<'_>) -> Result<Arg, Stop>
+        requires { ReadsParts F.pre F.post self.now }
+        ensures { Parses given (spec.address (run self.now.depth)) cursor.old result cursor.new }
     {
         let room = cursor.room;
         cursor.open()?;
-        let (place, _) = self.smaller(cursor, Part::Unary)?;
+        let (place, _) = self.parse_nested(cursor, Part::Unary)?;
         cursor.room = room;
         Ok(Arg::Address(place))
     }
 
-    /// An argument.
-    fn argument(&self, cursor: &mut Cursor<'_>) -> Result<Arg, Stop>
-        requires { Nests self.now.depth self.now.turns (F.pre self.now.read) (F.post self.now.read) }
-        ensures { Gives given (spec.argument (spec.run self.now.depth) cursor.old.room cursor.old.rest.now) result cursor.new.room cursor.new.rest.now }
+    /// Parses an argument of a call.
+    fn parse_argument(&self, cursor: &mut Cursor<'_>) -> Result<Arg, Stop>
+        requires { ReadsParts F.pre F.post self.now }
+        ensures { Parses given (spec.argument (run self.now.depth)) cursor.old result cursor.new }
     {
-        match cursor.lead() {
-            Lead::Text => self.format(cursor),
-            Lead::Binary(BinOp::BitAnd) => self.address(cursor),
-            _ => self.value(cursor),
+        match cursor.peek() {
+            Lead::Text => self.parse_format_argument(cursor),
+            Lead::Binary(BinOp::BitAnd) => self.parse_address_argument(cursor),
+            _ => self.parse_value_argument(cursor),
         }
     }
 
-    /// One argument, or more with commas between them.
-    fn some_arguments(&self, cursor: &mut Cursor<'_>) -> Result<Vec<Arg>, Stop>
-        requires { Nests self.now.depth self.now.turns (F.pre self.now.read) (F.post self.now.read) }
-        ensures { Gives givens (spec.all_listed leads.never (spec.argument (spec.run self.now.depth) cursor.old.room) cursor.old.room cursor.old.rest.now) result cursor.new.room cursor.new.rest.now }
+    /// Parses one argument, or more with commas between them.
+    fn parse_argument_list(&self, cursor: &mut Cursor<'_>) -> Result<Vec<Arg>, Stop>
+        requires { ReadsParts F.pre F.post self.now }
+        ensures { Parses givens (parts.comma_list leads.never (spec.argument (run self.now.depth)))
+            cursor.old result cursor.new }
     {
         let room = cursor.room;
         let mut args = Vec::new(self.alloc);
         for _turn in 0..cursor.rest.len() + 1 {
             cursor.room = room;
-            let next = self.argument(cursor)?;
+            let next = self.parse_argument(cursor)?;
             args.push(next)?;
             if !cursor.is_at_comma() {
                 return Ok(args);
             }
-            cursor.take()?;
+            cursor.advance()?;
         }
         Err(Stop::Unexpected)
     }
 
-    /// The arguments of a call, up to its `)`.
-    fn arguments(&self, cursor: &mut Cursor<'_>) -> Result<Vec<Arg>, Stop>
-        requires { Nests self.now.depth self.now.turns (F.pre self.now.read) (F.post self.now.read) }
-        ensures { Gives givens (spec.arguments (spec.run self.now.depth) cursor.old.room cursor.old.rest.now) result cursor.new.room cursor.new.rest.now }
+    /// Parses the arguments of a call, up to its `)`.
+    fn parse_arguments(&self, cursor: &mut Cursor<'_>) -> Result<Vec<Arg>, Stop>
+        requires { ReadsParts F.pre F.post self.now }
+        ensures { Parses givens (spec.arguments (run self.now.depth)) cursor.old result cursor.new }
     {
         if cursor.is_at_close_paren() {
             Ok(Vec::new(self.alloc))
         } else {
-            self.some_arguments(cursor)
+            self.parse_argument_list(cursor)
         }
     }
 
-    /// `[ expression ]` behind a name.
-    fn index(&self, cursor: &mut Cursor<'_>, word: Text, at: Span) -> Result<(Expr, bool), Stop>
-        requires { Nests self.now.depth self.now.turns (F.pre self.now.read) (F.post self.now.read) }
-        ensures { Gives marked (spec.index (spec.run self.now.depth) word at cursor.old.room cursor.old.rest.now) result cursor.new.room cursor.new.rest.now }
+    /// Parses `[ expression ]` after a name.
+    fn parse_index(
+        &self,
+        cursor: &mut Cursor<'_>,
+        word: Text,
+        at: Span,
+    ) -> Result<(Expr, bool), Stop>
+        requires { ReadsParts F.pre F.post self.now }
+        ensures { Parses marked (spec.index (run self.now.depth) word at) cursor.old result cursor.new }
     {
         let outside = cursor.room;
         cursor.open()?;
-        let (index, _) = self.smaller(cursor, Part::Expression)?;
-        let to = cursor.close_bracket(outside)?;
-        Ok((element(self.alloc, word, index, over(at, to))?, true))
+        let (index, _) = self.parse_nested(cursor, Part::Expression)?;
+        let to = cursor.expect_close_bracket(outside)?;
+        Ok((
+            index_expr(self.alloc, word, index, span_over(at, to))?,
+            true,
+        ))
     }
 
-    /// `( arguments )` behind a name.
-    fn call(&self, cursor: &mut Cursor<'_>, word: Text, at: Span) -> Result<(Expr, bool), Stop>
-        requires { Nests self.now.depth self.now.turns (F.pre self.now.read) (F.post self.now.read) }
-        ensures { Gives marked (spec.call (spec.run self.now.depth) word at cursor.old.room cursor.old.rest.now) result cursor.new.room cursor.new.rest.now }
+    /// Parses `( arguments )` after a name.
+    fn parse_call(
+        &self,
+        cursor: &mut Cursor<'_>,
+        word: Text,
+        at: Span,
+    ) -> Result<(Expr, bool), Stop>
+        requires { ReadsParts F.pre F.post self.now }
+        ensures { Parses marked (spec.call (run self.now.depth) word at) cursor.old result cursor.new }
     {
         let outside = cursor.room;
         cursor.open()?;
-        let args = self.arguments(cursor)?;
-        let to = cursor.close_paren(outside)?;
-        Ok((call(word, args, over(at, to)), true))
+        let args = self.parse_arguments(cursor)?;
+        let to = cursor.expect_close_paren(outside)?;
+        Ok((call_expr(word, args, span_over(at, to)), true))
     }
 
-    /// A name, an element of an array or a call.
-    fn named(&self, cursor: &mut Cursor<'_>) -> Result<(Expr, bool), Stop>
-        requires { Nests self.now.depth self.now.turns (F.pre self.now.read) (F.post self.now.read) }
-        ensures { Gives marked (spec.named (spec.run self.now.depth) cursor.old.room cursor.old.rest.now) result cursor.new.room cursor.new.rest.now }
+    /// Parses a name, an element of an array or a call.
+    fn parse_named(&self, cursor: &mut Cursor<'_>) -> Result<(Expr, bool), Stop>
+        requires { ReadsParts F.pre F.post self.now }
+        ensures { Parses marked (spec.named (run self.now.depth)) cursor.old result cursor.new }
     {
-        let (word, at) = cursor.name(self.alloc)?;
-        match cursor.lead() {
-            Lead::OpenBracket => self.index(cursor, word, at),
-            Lead::OpenParen => self.call(cursor, word, at),
-            _ => Ok((name(word, at), true)),
+        let (word, at) = cursor.expect_name(self.alloc)?;
+        match cursor.peek() {
+            Lead::OpenBracket => self.parse_index(cursor, word, at),
+            Lead::OpenParen => self.parse_call(cursor, word, at),
+            _ => Ok((name_expr(word, at), true)),
         }
     }
 
-    /// `( expression )`
-    fn paren(&self, cursor: &mut Cursor<'_>) -> Result<(Expr, bool), Stop>
-        requires { Nests self.now.depth self.now.turns (F.pre self.now.read) (F.post self.now.read) }
-        ensures { Gives marked (spec.paren (spec.run self.now.depth) cursor.old.room cursor.old.rest.now) result cursor.new.room cursor.new.rest.now }
+    /// Parses `( expression )`.
+    fn parse_parenthesized(&self, cursor: &mut Cursor<'_>) -> Result<(Expr, bool), Stop>
+        requires { ReadsParts F.pre F.post self.now }
+        ensures { Parses marked (spec.paren (run self.now.depth)) cursor.old result cursor.new }
     {
         let outside = cursor.room;
         let from = cursor.open()?;
-        let (inner, _) = self.smaller(cursor, Part::Expression)?;
-        let to = cursor.close_paren(outside)?;
-        Ok((wrapped(over(from, to), inner), true))
+        let (inner, _) = self.parse_nested(cursor, Part::Expression)?;
+        let to = cursor.expect_close_paren(outside)?;
+        Ok((parenthesized(span_over(from, to), inner), true))
     }
 
-    /// A constant.
-    fn number(&self, cursor: &mut Cursor<'_>) -> Result<(Expr, bool), Stop>
-        requires { Nests self.now.depth self.now.turns (F.pre self.now.read) (F.post self.now.read) }
-        ensures { Gives marked (spec.number (spec.run self.now.depth) cursor.old.room cursor.old.rest.now) result cursor.new.room cursor.new.rest.now }
+    /// Parses a constant.
+    fn parse_constant(&self, cursor: &mut Cursor<'_>) -> Result<(Expr, bool), Stop>
+        requires { ReadsParts F.pre F.post self.now }
+        ensures { Parses marked (spec.number (run self.now.depth)) cursor.old result cursor.new }
     {
-        let (value, word, span) = cursor.constant(self.alloc)?;
-        Ok((constant(value, word, span), true))
+        let (value, word, span) = cursor.expect_constant(self.alloc)?;
+        Ok((const_expr(value, word, span), true))
     }
 
-    /// A primary expression (C11 6.5.1), an element of an array or a call.
-    fn primary(&self, cursor: &mut Cursor<'_>) -> Result<(Expr, bool), Stop>
-        requires { Nests self.now.depth self.now.turns (F.pre self.now.read) (F.post self.now.read) }
-        ensures { Gives marked (spec.primary (spec.run self.now.depth) cursor.old.room cursor.old.rest.now) result cursor.new.room cursor.new.rest.now }
+    /// Parses a primary expression (C11 6.5.1), an element of an array or a call.
+    fn parse_primary(&self, cursor: &mut Cursor<'_>) -> Result<(Expr, bool), Stop>
+        requires { ReadsParts F.pre F.post self.now }
+        ensures { Parses marked (spec.primary (run self.now.depth)) cursor.old result cursor.new }
     {
-        match cursor.lead() {
-            Lead::Constant => self.number(cursor),
-            Lead::Name => self.named(cursor),
-            Lead::OpenParen => self.paren(cursor),
+        match cursor.peek() {
+            Lead::Constant => self.parse_constant(cursor),
+            Lead::Name => self.parse_named(cursor),
+            Lead::OpenParen => self.parse_parenthesized(cursor),
             _ => Err(Stop::Unexpected),
         }
     }
 
-    /// A postfix expression (C11 6.5.2).
-    fn postfix(&self, cursor: &mut Cursor<'_>) -> Result<(Expr, bool), Stop>
-        requires { Nests self.now.depth self.now.turns (F.pre self.now.read) (F.post self.now.read) }
-        ensures { Gives marked (spec.postfix (spec.run self.now.depth) cursor.old.room cursor.old.rest.now) result cursor.new.room cursor.new.rest.now }
+    /// Parses a postfix expression (C11 6.5.2).
+    fn parse_postfix(&self, cursor: &mut Cursor<'_>) -> Result<(Expr, bool), Stop>
+        requires { ReadsParts F.pre F.post self.now }
+        ensures { Parses marked (spec.postfix (run self.now.depth)) cursor.old result cursor.new }
     {
-        let (tree, unary) = self.primary(cursor)?;
-        match cursor.bump() {
+        let (tree, unary) = self.parse_primary(cursor)?;
+        match cursor.peek_bump() {
             Some(up) => {
-                let to = cursor.take()?;
-                Ok((bumped_after(self.alloc, up, tree, to)?, true))
+                let to = cursor.advance()?;
+                Ok((postfix_bump_expr(self.alloc, up, tree, to)?, true))
             }
             None => Ok((tree, unary)),
         }
     }
 
-    /// `++` or `--` before a unary expression.
-    fn bump(&self, cursor: &mut Cursor<'_>, up: bool) -> Result<(Expr, bool), Stop>
-        requires { Nests self.now.depth self.now.turns (F.pre self.now.read) (F.post self.now.read) }
-        ensures { Gives marked (spec.bump (spec.run self.now.depth) up cursor.old.room cursor.old.rest.now) result cursor.new.room cursor.new.rest.now }
+    /// Parses `++` or `--` and the unary expression after it.
+    fn parse_prefix_bump(&self, cursor: &mut Cursor<'_>, up: bool) -> Result<(Expr, bool), Stop>
+        requires { ReadsParts F.pre F.post self.now }
+        ensures { Parses marked (spec.bump (run self.now.depth) up) cursor.old result cursor.new }
     {
         let from = cursor.open()?;
-        let (place, _) = self.smaller(cursor, Part::Unary)?;
-        Ok((bumped_before(self.alloc, up, from, place)?, true))
+        let (place, _) = self.parse_nested(cursor, Part::Unary)?;
+        Ok((prefix_bump_expr(self.alloc, up, from, place)?, true))
     }
 
-    /// An operator before an operand.
-    fn prefix(&self, cursor: &mut Cursor<'_>, op: UnOp) -> Result<(Expr, bool), Stop>
-        requires { Nests self.now.depth self.now.turns (F.pre self.now.read) (F.post self.now.read) }
-        ensures { Gives marked (spec.prefix (spec.run self.now.depth) op cursor.old.room cursor.old.rest.now) result cursor.new.room cursor.new.rest.now }
+    /// Parses an operator and the operand after it (C11 6.5.3.3).
+    fn parse_prefix_operator(&self, cursor: &mut Cursor<'_>, op: UnOp) -> Result<(Expr, bool), Stop>
+        requires { ReadsParts F.pre F.post self.now }
+        ensures { Parses marked (spec.prefix (run self.now.depth) op) cursor.old result cursor.new }
     {
         let from = cursor.open()?;
-        let (of, _) = self.smaller(cursor, Part::Cast)?;
-        Ok((prefixed(self.alloc, op, from, of)?, true))
+        let (of, _) = self.parse_nested(cursor, Part::Cast)?;
+        Ok((unary_expr(self.alloc, op, from, of)?, true))
     }
 
-    /// A unary expression (C11 6.5.3).
-    fn unary(&self, cursor: &mut Cursor<'_>) -> Result<(Expr, bool), Stop>
-        requires { Nests self.now.depth self.now.turns (F.pre self.now.read) (F.post self.now.read) }
-        ensures { Gives marked (spec.unary (spec.run self.now.depth) cursor.old.room cursor.old.rest.now) result cursor.new.room cursor.new.rest.now }
+    /// Parses a unary expression (C11 6.5.3).
+    fn parse_unary(&self, cursor: &mut Cursor<'_>) -> Result<(Expr, bool), Stop>
+        requires { ReadsParts F.pre F.post self.now }
+        ensures { Parses marked (spec.unary (run self.now.depth)) cursor.old result cursor.new }
     {
-        if let Some(up) = cursor.bump() {
-            return self.bump(cursor, up);
+        if let Some(up) = cursor.peek_bump() {
+            return self.parse_prefix_bump(cursor, up);
         }
-        match cursor.prefix() {
-            Some(op) => self.prefix(cursor, op),
-            None => self.postfix(cursor),
+        match cursor.peek_prefix_operator() {
+            Some(op) => self.parse_prefix_operator(cursor, op),
+            None => self.parse_postfix(cursor),
         }
     }
 
-    /// `( type ) operand`
-    fn conversion(&self, cursor: &mut Cursor<'_>) -> Result<(Expr, bool), Stop>
-        requires { Nests self.now.depth self.now.turns (F.pre self.now.read) (F.post self.now.read) }
-        ensures { Gives marked (spec.conversion (spec.run self.now.depth) cursor.old.room cursor.old.rest.now) result cursor.new.room cursor.new.rest.now }
+    /// Parses `( type ) operand`.
+    fn parse_type_cast(&self, cursor: &mut Cursor<'_>) -> Result<(Expr, bool), Stop>
+        requires { ReadsParts F.pre F.post self.now }
+        ensures { Parses marked (spec.conversion (run self.now.depth)) cursor.old result cursor.new }
     {
         let from = cursor.open()?;
-        let ty = cursor.type_word()?;
+        let ty = cursor.expect_type()?;
         let inside = cursor.room;
-        cursor.close_paren(inside)?;
-        let (of, _) = self.smaller(cursor, Part::Cast)?;
-        Ok((converted(self.alloc, from, ty, of)?, false))
+        cursor.expect_close_paren(inside)?;
+        let (of, _) = self.parse_nested(cursor, Part::Cast)?;
+        Ok((cast_expr(self.alloc, from, ty, of)?, false))
     }
 
-    /// An operand (C11 6.5.4).
-    fn cast(&self, cursor: &mut Cursor<'_>) -> Result<(Expr, bool), Stop>
-        requires { Nests self.now.depth self.now.turns (F.pre self.now.read) (F.post self.now.read) }
-        ensures { Gives marked (spec.cast (spec.run self.now.depth) cursor.old.room cursor.old.rest.now) result cursor.new.room cursor.new.rest.now }
+    /// Parses a cast expression (C11 6.5.4).
+    fn parse_cast(&self, cursor: &mut Cursor<'_>) -> Result<(Expr, bool), Stop>
+        requires { ReadsParts F.pre F.post self.now }
+        ensures { Parses marked (spec.cast (run self.now.depth)) cursor.old result cursor.new }
     {
-        if cursor.casts() {
-            self.conversion(cursor)
+        if cursor.is_at_type_cast() {
+            self.parse_type_cast(cursor)
         } else {
-            self.unary(cursor)
+            self.parse_unary(cursor)
         }
     }
 
-    /// The operators of the rank above that one which follow, each with its operand.
-    fn operators(
+    /// Parses the operators of the rank `below + 1` that follow the operand `left`, each with its right operand.
+    fn parse_binary_rest(
         &self,
         cursor: &mut Cursor<'_>,
         below: u8,
-        mut tree: Expr,
+        mut left: Expr,
         mut unary: bool,
     ) -> Result<(Expr, bool), Stop>
         requires low { below < 255 }
-        requires nests { Nests self.now.depth self.now.turns (F.pre self.now.read) (F.post self.now.read) }
-        ensures { Gives marked (spec.operators (spec.run self.now.depth) self.now.turns below (plain_tree tree, unary) cursor.old.room cursor.old.rest.now) result cursor.new.room cursor.new.rest.now }
+        requires nests { ReadsParts F.pre F.post self.now }
+        ensures { Parses marked (spec.operators (run self.now.depth) self.now.turns below (tree left, unary))
+            cursor.old result cursor.new }
     {
         for _turn in 0..self.turns {
-            let Some(op) = cursor.operator(below + 1) else {
-                return Ok((tree, unary));
+            let Some(op) = cursor.peek_binary_operator(below + 1) else {
+                return Ok((left, unary));
             };
             cursor.open()?;
-            let (right, _) = self.smaller(cursor, Part::Binary(below))?;
-            tree = joined(self.alloc, op, tree, right)?;
+            let (right, _) = self.parse_nested(cursor, Part::Binary(below))?;
+            left = binary_expr(self.alloc, op, left, right)?;
             unary = false;
         }
         Err(Stop::TooDeep)
     }
 
-    /// Operands with operators of at most that rank between them (C11 6.5.5 to 6.5.14).
-    fn binary(&self, cursor: &mut Cursor<'_>, rank: u8) -> Result<(Expr, bool), Stop>
-        requires { Nests self.now.depth self.now.turns (F.pre self.now.read) (F.post self.now.read) }
-        ensures { Gives marked (spec.binary (spec.run self.now.depth) self.now.turns rank cursor.old.room cursor.old.rest.now) result cursor.new.room cursor.new.rest.now }
+    /// Parses operands with operators of at most that rank between them (C11 6.5.5 to 6.5.14).
+    fn parse_binary(&self, cursor: &mut Cursor<'_>, rank: u8) -> Result<(Expr, bool), Stop>
+        requires { ReadsParts F.pre F.post self.now }
+        ensures { Parses marked (spec.binary (run self.now.depth) self.now.turns rank)
+            cursor.old result cursor.new }
     {
         if rank == 0 {
-            return self.cast(cursor);
+            return self.parse_cast(cursor);
         }
-        let (tree, unary) = self.binary(cursor, rank - 1)?;
-        self.operators(cursor, rank - 1, tree, unary)
+        let (left, unary) = self.parse_binary(cursor, rank - 1)?;
+        self.parse_binary_rest(cursor, rank - 1, left, unary)
     }
 
-    /// `? yes : no` behind a test, where it comes next.
-    fn choose(&self, cursor: &mut Cursor<'_>, test: Expr, unary: bool) -> Result<(Expr, bool), Stop>
-        requires { Nests self.now.depth self.now.turns (F.pre self.now.read) (F.post self.now.read) }
-        ensures { Gives marked (spec.choose (spec.run self.now.depth) (plain_tree test, unary) cursor.old.room cursor.old.rest.now) result cursor.new.room cursor.new.rest.now }
+    /// Parses `? yes : no` after a test, where a `?` comes next.
+    fn parse_conditional_rest(
+        &self,
+        cursor: &mut Cursor<'_>,
+        test: Expr,
+        unary: bool,
+    ) -> Result<(Expr, bool), Stop>
+        requires { ReadsParts F.pre F.post self.now }
+        ensures { Parses marked (spec.choose (run self.now.depth) (tree test, unary))
+            cursor.old result cursor.new }
     {
         if !cursor.is_at_question() {
             return Ok((test, unary));
         }
         cursor.open()?;
-        let (yes, _) = self.smaller(cursor, Part::Expression)?;
-        cursor.colon()?;
-        let (no, _) = self.smaller(cursor, Part::Conditional)?;
-        Ok((chosen(self.alloc, test, yes, no)?, false))
+        let (yes, _) = self.parse_nested(cursor, Part::Expression)?;
+        cursor.expect_colon()?;
+        let (no, _) = self.parse_nested(cursor, Part::Conditional)?;
+        Ok((conditional_expr(self.alloc, test, yes, no)?, false))
     }
 
-    /// A conditional expression (C11 6.5.15).
-    fn conditional(&self, cursor: &mut Cursor<'_>) -> Result<(Expr, bool), Stop>
-        requires { Nests self.now.depth self.now.turns (F.pre self.now.read) (F.post self.now.read) }
-        ensures { Gives marked (spec.conditional (spec.run self.now.depth) self.now.turns cursor.old.room cursor.old.rest.now) result cursor.new.room cursor.new.rest.now }
+    /// Parses a conditional expression (C11 6.5.15).
+    fn parse_conditional(&self, cursor: &mut Cursor<'_>) -> Result<(Expr, bool), Stop>
+        requires { ReadsParts F.pre F.post self.now }
+        ensures { Parses marked (spec.conditional (run self.now.depth) self.now.turns)
+            cursor.old result cursor.new }
     {
-        let (test, unary) = self.binary(cursor, WEAKEST)?;
-        self.choose(cursor, test, unary)
+        let (test, unary) = self.parse_binary(cursor, WEAKEST)?;
+        self.parse_conditional_rest(cursor, test, unary)
     }
 
-    /// An assignment operator and a value behind a place, where they come next.
-    fn assign(&self, cursor: &mut Cursor<'_>, place: Expr) -> Result<(Expr, bool), Stop>
-        requires { Nests self.now.depth self.now.turns (F.pre self.now.read) (F.post self.now.read) }
-        ensures { Gives marked (spec.placed (spec.run self.now.depth) (plain_tree place, true) cursor.old.room cursor.old.rest.now) result cursor.new.room cursor.new.rest.now }
+    /// Parses an assignment operator and a value after a place, where an assignment operator comes next.
+    fn parse_assignment_rest(
+        &self,
+        cursor: &mut Cursor<'_>,
+        place: Expr,
+    ) -> Result<(Expr, bool), Stop>
+        requires { ReadsParts F.pre F.post self.now }
+        ensures { Parses marked (spec.placed (run self.now.depth) (tree place, true))
+            cursor.old result cursor.new }
     {
-        match cursor.assignment() {
+        match cursor.peek_assignment() {
             Some(op) => {
                 cursor.open()?;
-                let (value, _) = self.smaller(cursor, Part::Assignment)?;
-                Ok((assigned(self.alloc, op, place, value)?, false))
+                let (value, _) = self.parse_nested(cursor, Part::Assignment)?;
+                Ok((assign_expr(self.alloc, op, place, value)?, false))
             }
             None => Ok((place, true)),
         }
     }
 
-    /// An assignment expression (C11 6.5.16).
-    fn assignment(&self, cursor: &mut Cursor<'_>) -> Result<(Expr, bool), Stop>
-        requires { Nests self.now.depth self.now.turns (F.pre self.now.read) (F.post self.now.read) }
-        ensures { Gives marked (spec.assignment (spec.run self.now.depth) self.now.turns cursor.old.room cursor.old.rest.now) result cursor.new.room cursor.new.rest.now }
+    /// Parses an assignment expression (C11 6.5.16).
+    fn parse_assignment(&self, cursor: &mut Cursor<'_>) -> Result<(Expr, bool), Stop>
+        requires { ReadsParts F.pre F.post self.now }
+        ensures { Parses marked (spec.assignment (run self.now.depth) self.now.turns)
+            cursor.old result cursor.new }
     {
-        let (tree, unary) = self.conditional(cursor)?;
+        let (left, unary) = self.parse_conditional(cursor)?;
         if unary {
-            self.assign(cursor, tree)
+            self.parse_assignment_rest(cursor, left)
         } else {
-            Ok((tree, false))
+            Ok((left, false))
         }
     }
 
-    /// The commas that follow, each with its operand.
-    fn commas(
+    /// Parses the commas that follow the operand `left`, each with its right operand.
+    fn parse_comma_rest(
         &self,
         cursor: &mut Cursor<'_>,
-        mut tree: Expr,
+        mut left: Expr,
         mut unary: bool,
     ) -> Result<(Expr, bool), Stop>
-        requires { Nests self.now.depth self.now.turns (F.pre self.now.read) (F.post self.now.read) }
-        ensures { Gives marked (spec.commas (spec.run self.now.depth) self.now.turns (plain_tree tree, unary) cursor.old.room cursor.old.rest.now) result cursor.new.room cursor.new.rest.now }
+        requires { ReadsParts F.pre F.post self.now }
+        ensures { Parses marked (spec.commas (run self.now.depth) self.now.turns (tree left, unary))
+            cursor.old result cursor.new }
     {
         for _turn in 0..self.turns {
             if !cursor.is_at_comma() {
-                return Ok((tree, unary));
+                return Ok((left, unary));
             }
             cursor.open()?;
-            let (right, _) = self.smaller(cursor, Part::Assignment)?;
-            tree = followed(self.alloc, tree, right)?;
+            let (right, _) = self.parse_nested(cursor, Part::Assignment)?;
+            left = comma_expr(self.alloc, left, right)?;
             unary = false;
         }
         Err(Stop::TooDeep)
     }
 
-    /// An expression (C11 6.5.17).
-    fn expression(&self, cursor: &mut Cursor<'_>) -> Result<(Expr, bool), Stop>
-        requires { Nests self.now.depth self.now.turns (F.pre self.now.read) (F.post self.now.read) }
-        ensures { Gives marked (spec.expression (spec.run self.now.depth) self.now.turns cursor.old.room cursor.old.rest.now) result cursor.new.room cursor.new.rest.now }
+    /// Parses an expression (C11 6.5.17).
+    fn parse_expression(&self, cursor: &mut Cursor<'_>) -> Result<(Expr, bool), Stop>
+        requires { ReadsParts F.pre F.post self.now }
+        ensures { Parses marked (spec.expression (run self.now.depth) self.now.turns)
+            cursor.old result cursor.new }
     {
-        let (tree, unary) = self.assignment(cursor)?;
-        self.commas(cursor, tree, unary)
+        let (left, unary) = self.parse_assignment(cursor)?;
+        self.parse_comma_rest(cursor, left, unary)
     }
 
-    /// An expression of that kind.
-    fn step(&self, cursor: &mut Cursor<'_>, part: Part) -> Result<(Expr, bool), Stop>
-        requires { Nests self.now.depth self.now.turns (F.pre self.now.read) (F.post self.now.read) }
-        ensures { Gives marked (spec.step (spec.run self.now.depth) self.now.turns part cursor.old.room cursor.old.rest.now) result cursor.new.room cursor.new.rest.now }
+    /// Parses an expression of that kind.
+    fn parse(&self, cursor: &mut Cursor<'_>, part: Part) -> Result<(Expr, bool), Stop>
+        requires { ReadsParts F.pre F.post self.now }
+        ensures { Parses marked (spec.step (run self.now.depth) self.now.turns part)
+            cursor.old result cursor.new }
     {
         match part {
-            Part::Expression => self.expression(cursor),
-            Part::Assignment => self.assignment(cursor),
-            Part::Conditional => self.conditional(cursor),
-            Part::Binary(rank) => self.binary(cursor, rank),
-            Part::Cast => self.cast(cursor),
-            Part::Unary => self.unary(cursor),
-            Part::Postfix => self.postfix(cursor),
-            Part::Primary => self.primary(cursor),
+            Part::Expression => self.parse_expression(cursor),
+            Part::Assignment => self.parse_assignment(cursor),
+            Part::Conditional => self.parse_conditional(cursor),
+            Part::Binary(rank) => self.parse_binary(cursor, rank),
+            Part::Cast => self.parse_cast(cursor),
+            Part::Unary => self.parse_unary(cursor),
+            Part::Postfix => self.parse_postfix(cursor),
+            Part::Primary => self.parse_primary(cursor),
         }
     }
 }
 
-/// An expression of that kind, with fewer openers one in the other than the depth, and whether it is written as a
-/// unary expression.
-pub fn read(
+/// Parses an expression of that kind whose openers are nested less than `depth` deep. The flag says whether it is
+/// written as a unary expression, which an assignment operator may follow.
+pub fn parse_part(
     alloc: Global,
     cursor: &mut Cursor<'_>,
     depth: usize,
     part: Part,
 ) -> Result<(Expr, bool), Stop>
-    ensures { Gives marked (spec.run depth part cursor.old.room cursor.old.rest.now) result cursor.new.room cursor.new.rest.now }
+    ensures { Parses marked (run depth part) cursor.old result cursor.new }
 {
     if depth == 0 {
         return Err(Stop::TooDeep);
     }
-    Grammar {
+    ExpressionParser {
         alloc,
         depth: depth - 1,
         turns: depth,
-        read,
+        parse_part,
     }
-    .step(cursor, part)
+    .parse(cursor, part)
+}
+
+/// Parses an expression of that kind. The room after it is the room before it.
+pub fn parse_expression(alloc: Global, cursor: &mut Cursor<'_>, part: Part) -> Result<Expr, Stop>
+    ensures { Parses tree (program.value part) cursor.old result cursor.new }
+{
+    let room = cursor.room;
+    let (tree, _) = parse_part(alloc, cursor, usize::from(room) + 1, part)?;
+    cursor.room = room;
+    Ok(tree)
 }

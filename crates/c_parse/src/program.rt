@@ -1,147 +1,149 @@
-//! Programs: declarations, prototypes and definitions of functions (C11 6.9).
+//! The parser of whole programs: declarations, prototypes and definitions of functions (C11 6.9).
 
 ghost use Rattle.std.specs.Prelude.{◌≡◌, List, IfOk, IfErr};
+ghost use Rattle.c_lex.specs.Lexemes.{Rise};
 ghost use Rattle.c_tree.specs.Tree as plain;
 ghost use Rattle.c_tree.specs.Views.{outer, program as program_tree};
 ghost use Rattle.c_grammar.specs.Grammar.{Tokens};
 ghost use Rattle.c_grammar.specs.Programs.{Derives};
-ghost use Rattle.c_grammar.specs.Descent as expressions;
 ghost use Rattle.c_grammar.specs.Leads as leads;
 ghost use Rattle.c_grammar.specs.ProgramDescent as spec;
+ghost use Rattle.c_grammar.specs.BegunNesting.{Passes};
 ghost use Rattle.c_grammar.specs.Judge.{good, unexpected_at, too_deep_at, Judged, judge};
 ghost use Rattle.c_parse.specs.Gives as seen;
-ghost use Rattle.c_parse.specs.Gives.{Gives, itself};
-ghost use Rattle.c_lex.specs.Lexemes.{Rise};
+ghost use Rattle.c_parse.specs.Gives.{Parses, itself};
+ghost use Rattle.c_parse.specs.Parts as parts;
 ghost use Rattle.c_parse.specs.Faults.{Causes, IsPlaced, Says, place_of};
 
-use crate::cursor::{Cursor, over};
-use crate::declaration::{brackets, variables};
+use crate::cursor::{Cursor, span_over};
+use crate::declaration::{parse_brackets, parse_declaration};
 use crate::fault::{ParseFault, Stop};
-use crate::statement::items;
-use crate::tree::{definition, parameter, prototype};
+use crate::statement::parse_block_items;
+use crate::tree::{function_definition, parameter, prototype};
 use c_grammar::Lead;
 use c_lex::Token;
 use c_tree::{External, Item, Param, Program, Span, Text, Ty};
 use std::alloc::Global;
 
-// How many openers may be open at a token of a program.
+/// How many openers may be open at a token of a program.
 const ROOM: u8 = 64;
 
-/// A parameter.
-fn param(alloc: Global, cursor: &mut Cursor<'_>) -> Result<Param, Stop>
-    ensures { Gives itself (spec.param cursor.old.room cursor.old.rest.now) result cursor.new.room cursor.new.rest.now }
+/// Parses a parameter.
+fn parse_parameter(alloc: Global, cursor: &mut Cursor<'_>) -> Result<Param, Stop>
+    ensures { Parses itself spec.param cursor.old result cursor.new }
 {
-    let ty = cursor.type_word()?;
-    let (word, at) = cursor.name(alloc)?;
+    let ty = cursor.expect_type()?;
+    let (word, at) = cursor.expect_name(alloc)?;
     if cursor.is_at_open_bracket() {
-        let (_, to) = brackets(alloc, cursor)?;
-        Ok(parameter(word, over(at, to), ty, true))
+        let (_, to) = parse_brackets(alloc, cursor)?;
+        Ok(parameter(word, span_over(at, to), ty, true))
     } else {
         Ok(parameter(word, at, ty, false))
     }
 }
 
-/// One parameter, or more with commas between them.
-fn some_params(alloc: Global, cursor: &mut Cursor<'_>) -> Result<Vec<Param>, Stop>
-    ensures { Gives seen.params (expressions.all_listed leads.never (spec.param cursor.old.room) cursor.old.room cursor.old.rest.now) result cursor.new.room cursor.new.rest.now }
+/// Parses one parameter, or more with commas between them.
+fn parse_parameter_list(alloc: Global, cursor: &mut Cursor<'_>) -> Result<Vec<Param>, Stop>
+    ensures { Parses seen.params (parts.comma_list leads.never spec.param)
+        cursor.old result cursor.new }
 {
     let room = cursor.room;
     let mut params = Vec::new(alloc);
     for _turn in 0..cursor.rest.len() + 1 {
         cursor.room = room;
-        let next = param(alloc, cursor)?;
+        let next = parse_parameter(alloc, cursor)?;
         params.push(next)?;
         if !cursor.is_at_comma() {
             return Ok(params);
         }
-        cursor.take()?;
+        cursor.advance()?;
     }
     Err(Stop::Unexpected)
 }
 
-/// Parameters or none.
-fn params(alloc: Global, cursor: &mut Cursor<'_>) -> Result<Vec<Param>, Stop>
-    ensures { Gives seen.params (spec.params cursor.old.room cursor.old.rest.now) result cursor.new.room cursor.new.rest.now }
+/// Parses the parameters of a function, of which there may be none.
+fn parse_parameters(alloc: Global, cursor: &mut Cursor<'_>) -> Result<Vec<Param>, Stop>
+    ensures { Parses seen.params spec.params cursor.old result cursor.new }
 {
-    match cursor.lead() {
+    match cursor.peek() {
         Lead::CloseParen => Ok(Vec::new(alloc)),
         Lead::Void => {
-            cursor.take()?;
+            cursor.advance()?;
             Ok(Vec::new(alloc))
         }
-        _ => some_params(alloc, cursor),
+        _ => parse_parameter_list(alloc, cursor),
     }
 }
 
-/// `(`, parameters or none, and `)`.
-fn signature(alloc: Global, cursor: &mut Cursor<'_>) -> Result<Vec<Param>, Stop>
-    ensures { Gives seen.params (spec.signature cursor.old.room cursor.old.rest.now) result cursor.new.room cursor.new.rest.now }
+/// Parses `( parameters )` after the name of a function.
+fn parse_signature(alloc: Global, cursor: &mut Cursor<'_>) -> Result<Vec<Param>, Stop>
+    ensures { Parses seen.params spec.signature cursor.old result cursor.new }
 {
     let outside = cursor.room;
-    cursor.open_paren()?;
-    let params = params(alloc, cursor)?;
-    cursor.close_paren(outside)?;
+    cursor.expect_open_paren()?;
+    let params = parse_parameters(alloc, cursor)?;
+    cursor.expect_close_paren(outside)?;
     Ok(params)
 }
 
-/// What a function gives.
-fn gives(cursor: &mut Cursor<'_>) -> Result<Option<Ty>, Stop>
-    ensures { Gives itself (spec.result cursor.old.room cursor.old.rest.now) result cursor.new.room cursor.new.rest.now }
+/// Parses what a function returns: a type, or `void`.
+fn parse_result_type(cursor: &mut Cursor<'_>) -> Result<Option<Ty>, Stop>
+    ensures { Parses itself spec.result cursor.old result cursor.new }
 {
-    match cursor.result() {
+    match cursor.peek_result_type() {
         Some(ret) => {
-            cursor.take()?;
+            cursor.advance()?;
             Ok(ret)
         }
         None => Err(Stop::Unexpected),
     }
 }
 
-/// The items of a function's body in their braces, and the text of the `}`.
-fn body(alloc: Global, cursor: &mut Cursor<'_>) -> Result<(Vec<Item>, Span), Stop>
-    ensures { Gives seen.closed_body (spec.body cursor.old.room cursor.old.rest.now) result cursor.new.room cursor.new.rest.now }
+/// Parses the body of a function: the items between its braces, and the span of the `}`.
+fn parse_body(alloc: Global, cursor: &mut Cursor<'_>) -> Result<(Vec<Item>, Span), Stop>
+    ensures { Parses seen.closed_body spec.body cursor.old result cursor.new }
 {
     let outside = cursor.room;
-    cursor.open_brace()?;
-    let items = items(alloc, cursor, outside)?;
-    let to = cursor.close_brace(outside)?;
+    cursor.expect_open_brace()?;
+    let items = parse_block_items(alloc, cursor, outside)?;
+    let to = cursor.expect_close_brace(outside)?;
     Ok((items, to))
 }
 
-/// A prototype or a definition of a function.
-fn func(alloc: Global, cursor: &mut Cursor<'_>) -> Result<External, Stop>
-    ensures { Gives outer (spec.func cursor.old.room cursor.old.rest.now) result cursor.new.room cursor.new.rest.now }
+/// Parses a prototype or a definition of a function.
+fn parse_function(alloc: Global, cursor: &mut Cursor<'_>) -> Result<External, Stop>
+    ensures { Parses outer spec.func cursor.old result cursor.new }
 {
-    let ret = gives(cursor)?;
-    let (word, at) = cursor.name(alloc)?;
-    let params = signature(alloc, cursor)?;
+    let ret = parse_result_type(cursor)?;
+    let (word, at) = cursor.expect_name(alloc)?;
+    let params = parse_signature(alloc, cursor)?;
     if cursor.is_at_semicolon() {
-        let to = cursor.take()?;
-        Ok(prototype(word, over(at, to), ret, params))
+        let to = cursor.advance()?;
+        Ok(prototype(word, span_over(at, to), ret, params))
     } else {
-        let (items, to) = body(alloc, cursor)?;
-        Ok(definition(word, over(at, to), ret, params, items))
+        let (items, to) = parse_body(alloc, cursor)?;
+        Ok(function_definition(word, span_over(at, to), ret, params, items))
     }
 }
 
-/// What stands at file scope.
-fn external(alloc: Global, cursor: &mut Cursor<'_>) -> Result<External, Stop>
-    ensures { Gives outer (spec.external cursor.old.room cursor.old.rest.now) result cursor.new.room cursor.new.rest.now }
+/// Parses an external declaration: variables, a prototype or a function.
+fn parse_external(alloc: Global, cursor: &mut Cursor<'_>) -> Result<External, Stop>
+    ensures { Parses outer spec.external cursor.old result cursor.new }
 {
     if cursor.is_at_function() {
-        return func(alloc, cursor);
+        return parse_function(alloc, cursor);
     }
-    let (ty, variables) = variables(alloc, cursor)?;
+    let (ty, variables) = parse_declaration(alloc, cursor)?;
     Ok(External::Vars(ty, variables))
 }
 
-/// Declarations, prototypes and definitions, up to the end of the tokens.
-fn externals(alloc: Global, cursor: &mut Cursor<'_>) -> Result<Vec<External>, Stop>
-    ensures { Gives seen.outers (spec.program cursor.old.room cursor.old.rest.now) result cursor.new.room cursor.new.rest.now }
+/// Parses external declarations up to the end of the tokens.
+fn parse_externals(alloc: Global, cursor: &mut Cursor<'_>) -> Result<Vec<External>, Stop>
+    ensures { Parses seen.outers spec.program cursor.old result cursor.new }
 {
     let mut externals = Vec::new(alloc);
     for _turn in 0..cursor.rest.len() + 1 {
-        let next = external(alloc, cursor)?;
+        let next = parse_external(alloc, cursor)?;
         externals.push(next)?;
         if cursor.is_at_end() {
             return Ok(externals);
@@ -150,24 +152,24 @@ fn externals(alloc: Global, cursor: &mut Cursor<'_>) -> Result<Vec<External>, St
     Err(Stop::Unexpected)
 }
 
-/// The tree of the tokens, or their first fault.
-fn judged(alloc: Global, tokens: &[Token], end: u32) -> Result<Program, ParseFault>
+/// Parses a whole program: its tree, or the first fault of the tokens.
+fn parse_program(alloc: Global, tokens: &[Token], end: u32) -> Result<Program, ParseFault>
     ensures { Says end (judge 64 tokens.now) result }
 {
     let mut cursor = Cursor {
         rest: tokens,
         room: ROOM,
     };
-    match externals(alloc, &mut cursor) {
+    match parse_externals(alloc, &mut cursor) {
         Ok(externals) => Ok(Program { externals }),
-        Err(Stop::Unexpected) => Err(ParseFault::Unexpected(place(&cursor, end))),
-        Err(Stop::TooDeep) => Err(ParseFault::TooDeep(place(&cursor, end))),
+        Err(Stop::Unexpected) => Err(ParseFault::Unexpected(fault_place(&cursor, end))),
+        Err(Stop::TooDeep) => Err(ParseFault::TooDeep(fault_place(&cursor, end))),
         Err(Stop::NoMemory) => Err(ParseFault::NoMemory),
     }
 }
 
 /// Where the next token begins; at the end of the tokens, where their source ends.
-fn place(cursor: &Cursor<'_>, end: u32) -> u32
+fn fault_place(cursor: &Cursor<'_>, end: u32) -> u32
     ensures { result ≡ place_of end cursor.now.rest.now }
 {
     match cursor.rest {
@@ -181,14 +183,14 @@ fn place(cursor: &Cursor<'_>, end: u32) -> u32
 /// # Errors
 ///
 /// `Unexpected` at the first token with which, or with the end of the tokens, nothing is a program; `TooDeep` at the
-/// first token that could go on only with a 65th opener open; `NoMemory` where the allocator has no memory left.
+/// first token at which the nesting is 65; `NoMemory` where the allocator has no memory left.
 pub fn parse(alloc: Global, tokens: &[Token], end: u32) -> Result<Program, ParseFault>
     ensures derived { IfOk result (λ p. Derives 64 tokens.now (program_tree p)) }
     ensures refused { IfErr result (λ e. Causes end tokens.now e) }
     ensures accepts { (p : List plain.Outer) → Derives 64 tokens.now p → Says end (good p) result }
     ensures expects { (b : Tokens) → Judged 64 tokens.now (unexpected_at b) → Says end (unexpected_at b) result }
-    ensures nests { (b : Tokens) → Judged 64 tokens.now (too_deep_at b) → Says end (too_deep_at b) result }
+    ensures nests { (b : Tokens) → Passes 64 tokens.now b → Says end (too_deep_at b) result }
     ensures placed { Rise 0 end tokens.now → IfErr result (IsPlaced end) }
 {
-    judged(alloc, tokens, end)
+    parse_program(alloc, tokens, end)
 }

@@ -1,175 +1,182 @@
-//! Statements and blocks (C11 6.8).
+//! The parser of statements and blocks (C11 6.8).
 
-ghost use Rattle.c_tree.specs.Views.{tree as plain_tree, tree_option, first, code};
-ghost use Rattle.c_grammar.specs.Leads as leads;
+ghost use Rattle.c_tree.specs.Views.{tree, tree_option, first, code};
 ghost use Rattle.c_grammar.specs.ProgramDescent as spec;
-ghost use Rattle.c_parse.specs.Parts as parts;
 ghost use Rattle.c_parse.specs.Gives as seen;
-ghost use Rattle.c_parse.specs.Gives.{Gives};
+ghost use Rattle.c_parse.specs.Gives.{Parses};
+ghost use Rattle.c_parse.specs.Parts as parts;
 
-use crate::cursor::{Cursor, over};
-use crate::declaration::{value, variables};
+use crate::cursor::{Cursor, span_over};
+use crate::declaration::parse_declaration;
+use crate::expression::parse_expression;
 use crate::fault::Stop;
 use crate::tree::{
-    acting, branch as branch_tree, branch_or_else, do_loop as do_tree, for_loop as for_tree,
-    giving, in_braces, while_loop as while_tree,
+    block_stmt, do_stmt, expr_stmt, for_stmt, if_else_stmt, if_stmt, return_stmt, while_stmt,
 };
 use c_grammar::{Lead, Part};
 use c_tree::{Expr, Init, Item, Span, Stmt, StmtNode};
 use std::alloc::Global;
 
-/// `( expression )`
-fn tested(alloc: Global, cursor: &mut Cursor<'_>) -> Result<Expr, Stop>
-    ensures { Gives plain_tree (spec.tested cursor.old.room cursor.old.rest.now) result cursor.new.room cursor.new.rest.now }
+/// Parses `( expression )`, the condition of a statement.
+fn parse_condition(alloc: Global, cursor: &mut Cursor<'_>) -> Result<Expr, Stop>
+    ensures { Parses tree spec.tested cursor.old result cursor.new }
 {
     let outside = cursor.room;
-    cursor.open_paren()?;
-    let test = value(alloc, cursor, Part::Expression)?;
-    cursor.close_paren(outside)?;
+    cursor.expect_open_paren()?;
+    let test = parse_expression(alloc, cursor, Part::Expression)?;
+    cursor.expect_close_paren(outside)?;
     Ok(test)
 }
 
-/// An expression that may be absent, and whether it is.
-fn optional(alloc: Global, cursor: &mut Cursor<'_>, absent: bool) -> Result<Option<Expr>, Stop>
-    ensures { Gives tree_option (spec.optional_by absent cursor.old.room cursor.old.rest.now) result cursor.new.room cursor.new.rest.now }
+/// Parses an expression, unless it is absent.
+fn parse_optional_expression(
+    alloc: Global,
+    cursor: &mut Cursor<'_>,
+    absent: bool,
+) -> Result<Option<Expr>, Stop>
+    ensures { Parses tree_option (spec.optional_by absent) cursor.old result cursor.new }
 {
     if absent {
         return Ok(None);
     }
-    let tree = value(alloc, cursor, Part::Expression)?;
+    let tree = parse_expression(alloc, cursor, Part::Expression)?;
     Ok(Some(tree))
 }
 
-/// `expression ;` as the first clause of a `for`.
-fn first_act(alloc: Global, cursor: &mut Cursor<'_>) -> Result<Init, Stop>
-    ensures { Gives first (spec.first_act cursor.old.room cursor.old.rest.now) result cursor.new.room cursor.new.rest.now }
+/// Parses `expression ;` as the first clause of a `for`.
+fn parse_for_expression(alloc: Global, cursor: &mut Cursor<'_>) -> Result<Init, Stop>
+    ensures { Parses first spec.first_act cursor.old result cursor.new }
 {
-    let tree = value(alloc, cursor, Part::Expression)?;
-    cursor.semicolon()?;
+    let tree = parse_expression(alloc, cursor, Part::Expression)?;
+    cursor.expect_semicolon()?;
     Ok(Init::Act(tree))
 }
 
-/// The first clause of a `for`, with its `;`.
-fn clause(alloc: Global, cursor: &mut Cursor<'_>) -> Result<Init, Stop>
-    ensures { Gives first (spec.clause cursor.old.room cursor.old.rest.now) result cursor.new.room cursor.new.rest.now }
+/// Parses the first clause of a `for`, with its `;`.
+fn parse_for_init(alloc: Global, cursor: &mut Cursor<'_>) -> Result<Init, Stop>
+    ensures { Parses first spec.clause cursor.old result cursor.new }
 {
-    match cursor.lead() {
+    match cursor.peek() {
         Lead::Semicolon => {
-            cursor.take()?;
+            cursor.advance()?;
             Ok(Init::Empty)
         }
         Lead::Type(_) => {
-            let (ty, variables) = variables(alloc, cursor)?;
+            let (ty, variables) = parse_declaration(alloc, cursor)?;
             Ok(Init::Vars(ty, variables))
         }
-        _ => first_act(alloc, cursor),
+        _ => parse_for_expression(alloc, cursor),
     }
 }
 
-/// The clauses of a `for`, in their parentheses.
-fn clauses(
+/// Parses the clauses of a `for`, with their parentheses.
+fn parse_for_clauses(
     alloc: Global,
     cursor: &mut Cursor<'_>,
 ) -> Result<(Init, Option<Expr>, Option<Expr>), Stop>
-    ensures { Gives seen.clauses (spec.clauses cursor.old.room cursor.old.rest.now) result cursor.new.room cursor.new.rest.now }
+    ensures { Parses seen.clauses spec.clauses cursor.old result cursor.new }
 {
     let outside = cursor.room;
-    cursor.open_paren()?;
-    let init = clause(alloc, cursor)?;
+    cursor.expect_open_paren()?;
+    let init = parse_for_init(alloc, cursor)?;
     let always = cursor.is_at_semicolon();
-    let test = optional(alloc, cursor, always)?;
-    cursor.semicolon()?;
+    let test = parse_optional_expression(alloc, cursor, always)?;
+    cursor.expect_semicolon()?;
     let no_step = cursor.is_at_close_paren();
-    let step = optional(alloc, cursor, no_step)?;
-    cursor.close_paren(outside)?;
+    let step = parse_optional_expression(alloc, cursor, no_step)?;
+    cursor.expect_close_paren(outside)?;
     Ok((init, test, step))
 }
 
-/// `expression ;`
-fn act(alloc: Global, cursor: &mut Cursor<'_>) -> Result<Stmt, Stop>
-    ensures { Gives code (spec.act cursor.old.room cursor.old.rest.now) result cursor.new.room cursor.new.rest.now }
+/// Parses `expression ;`.
+fn parse_expression_statement(alloc: Global, cursor: &mut Cursor<'_>) -> Result<Stmt, Stop>
+    ensures { Parses code spec.act cursor.old result cursor.new }
 {
-    let tree = value(alloc, cursor, Part::Expression)?;
-    let to = cursor.semicolon()?;
-    Ok(acting(tree, to))
+    let tree = parse_expression(alloc, cursor, Part::Expression)?;
+    let to = cursor.expect_semicolon()?;
+    Ok(expr_stmt(tree, to))
 }
 
-/// `return`, a value or none, and `;`.
-fn give(alloc: Global, cursor: &mut Cursor<'_>) -> Result<Stmt, Stop>
-    ensures { Gives code (spec.give cursor.old.room cursor.old.rest.now) result cursor.new.room cursor.new.rest.now }
+/// Parses `return`, a value or none, and `;`.
+fn parse_return(alloc: Global, cursor: &mut Cursor<'_>) -> Result<Stmt, Stop>
+    ensures { Parses code spec.give cursor.old result cursor.new }
 {
-    let from = cursor.take()?;
+    let from = cursor.advance()?;
     let bare = cursor.is_at_semicolon();
-    let value = optional(alloc, cursor, bare)?;
-    let to = cursor.semicolon()?;
-    Ok(giving(value, over(from, to)))
+    let value = parse_optional_expression(alloc, cursor, bare)?;
+    let to = cursor.expect_semicolon()?;
+    Ok(return_stmt(value, span_over(from, to)))
 }
 
-/// `break ;`
-fn leave(cursor: &mut Cursor<'_>) -> Result<Stmt, Stop>
-    ensures { Gives code (spec.break cursor.old.room cursor.old.rest.now) result cursor.new.room cursor.new.rest.now }
+/// Parses `break ;`.
+fn parse_break(cursor: &mut Cursor<'_>) -> Result<Stmt, Stop>
+    ensures { Parses code spec.break cursor.old result cursor.new }
 {
-    let from = cursor.take()?;
-    let to = cursor.semicolon()?;
+    let from = cursor.advance()?;
+    let to = cursor.expect_semicolon()?;
     Ok(Stmt {
         node: StmtNode::Break,
-        span: over(from, to),
+        span: span_over(from, to),
     })
 }
 
-/// `continue ;`
-fn go_on(cursor: &mut Cursor<'_>) -> Result<Stmt, Stop>
-    ensures { Gives code (spec.continue cursor.old.room cursor.old.rest.now) result cursor.new.room cursor.new.rest.now }
+/// Parses `continue ;`.
+fn parse_continue(cursor: &mut Cursor<'_>) -> Result<Stmt, Stop>
+    ensures { Parses code spec.continue cursor.old result cursor.new }
 {
-    let from = cursor.take()?;
-    let to = cursor.semicolon()?;
+    let from = cursor.advance()?;
+    let to = cursor.expect_semicolon()?;
     Ok(Stmt {
         node: StmtNode::Continue,
-        span: over(from, to),
+        span: span_over(from, to),
     })
 }
 
-/// `;`
-fn empty(cursor: &mut Cursor<'_>) -> Result<Stmt, Stop>
-    ensures { Gives code (spec.empty cursor.old.room cursor.old.rest.now) result cursor.new.room cursor.new.rest.now }
+/// Parses `;`, the empty statement.
+fn parse_empty(cursor: &mut Cursor<'_>) -> Result<Stmt, Stop>
+    ensures { Parses code spec.empty cursor.old result cursor.new }
 {
-    let span = cursor.take()?;
+    let span = cursor.advance()?;
     Ok(Stmt {
         node: StmtNode::Empty,
         span,
     })
 }
 
-/// A statement in another: it has one room less than there is outside.
+/// Parses a statement inside another one: the room for it is one less than the room outside.
 #[cycle(statement)]
-fn inner(alloc: Global, cursor: &mut Cursor<'_>, outside: u8) -> Result<Stmt, Stop>
-    ensures { Gives code (spec.under outside cursor.old.rest.now) result cursor.new.room cursor.new.rest.now }
+fn parse_inner_statement(alloc: Global, cursor: &mut Cursor<'_>, outside: u8) -> Result<Stmt, Stop>
+    ensures { Parses code (parts.inner outside) cursor.old result cursor.new }
 {
     if outside == 0 {
         return Err(Stop::TooDeep);
     }
     cursor.room = outside - 1;
-    statement(alloc, cursor)
+    parse_statement(alloc, cursor)
 }
 
-/// An item of a block, where that room is outside of its braces.
+/// Parses an item of a block, outside of whose braces there is that room.
 #[cycle(statement)]
-fn item(alloc: Global, cursor: &mut Cursor<'_>, outside: u8) -> Result<Item, Stop>
-    ensures { Gives seen.alone (spec.item (spec.under outside) cursor.old.room cursor.old.rest.now) result cursor.new.room cursor.new.rest.now }
+fn parse_block_item(alloc: Global, cursor: &mut Cursor<'_>, outside: u8) -> Result<Item, Stop>
+    ensures { Parses seen.alone (spec.item (spec.under outside)) cursor.old result cursor.new }
 {
-    match cursor.lead() {
+    match cursor.peek() {
         Lead::Type(_) => {
-            let (ty, variables) = variables(alloc, cursor)?;
+            let (ty, variables) = parse_declaration(alloc, cursor)?;
             Ok(Item::Vars(ty, variables))
         }
-        _ => Ok(Item::Stmt(inner(alloc, cursor, outside)?)),
+        _ => Ok(Item::Stmt(parse_inner_statement(alloc, cursor, outside)?)),
     }
 }
 
-/// The items of a block, up to its `}`, where that room is outside of its braces.
+/// Parses the items of a block, up to its `}`, outside of whose braces there is that room.
 #[cycle(statement)]
-pub fn items(alloc: Global, cursor: &mut Cursor<'_>, outside: u8) -> Result<Vec<Item>, Stop>
-    ensures { Gives seen.body (spec.items (spec.under outside) cursor.old.room cursor.old.rest.now) result cursor.new.room cursor.new.rest.now }
+pub fn parse_block_items(
+    alloc: Global,
+    cursor: &mut Cursor<'_>,
+    outside: u8,
+) -> Result<Vec<Item>, Stop>
+    ensures { Parses seen.body (spec.items (spec.under outside)) cursor.old result cursor.new }
 {
     let room = cursor.room;
     let mut items = Vec::new(alloc);
@@ -178,107 +185,108 @@ pub fn items(alloc: Global, cursor: &mut Cursor<'_>, outside: u8) -> Result<Vec<
         if cursor.is_at_close_brace() {
             return Ok(items);
         }
-        let next = item(alloc, cursor, outside)?;
+        let next = parse_block_item(alloc, cursor, outside)?;
         items.push(next)?;
     }
     Err(Stop::Unexpected)
 }
 
-/// `{ items }`
+/// Parses `{ items }`.
 #[cycle(statement)]
-fn block(alloc: Global, cursor: &mut Cursor<'_>) -> Result<Stmt, Stop>
-    ensures { Gives code (spec.block (spec.under cursor.old.room) cursor.old.room cursor.old.rest.now) result cursor.new.room cursor.new.rest.now }
+fn parse_block(alloc: Global, cursor: &mut Cursor<'_>) -> Result<Stmt, Stop>
+    ensures { Parses code (parts.with_inner spec.block) cursor.old result cursor.new }
 {
     let outside = cursor.room;
     let from = cursor.open()?;
-    let items = items(alloc, cursor, outside)?;
-    let to = cursor.close_brace(outside)?;
-    Ok(in_braces(from, items, to))
+    let items = parse_block_items(alloc, cursor, outside)?;
+    let to = cursor.expect_close_brace(outside)?;
+    Ok(block_stmt(from, items, to))
 }
 
-/// An `if`, with the `else` that comes next behind its first arm.
+/// Parses an `if`, with the `else` that comes next after its first arm.
 #[cycle(statement)]
-fn branch(alloc: Global, cursor: &mut Cursor<'_>) -> Result<Stmt, Stop>
-    ensures { Gives code (spec.branch (spec.under cursor.old.room) cursor.old.room cursor.old.rest.now) result cursor.new.room cursor.new.rest.now }
+fn parse_if(alloc: Global, cursor: &mut Cursor<'_>) -> Result<Stmt, Stop>
+    ensures { Parses code (parts.with_inner spec.branch) cursor.old result cursor.new }
 {
     let outside = cursor.room;
     let from = cursor.open()?;
-    let test = tested(alloc, cursor)?;
-    let yes = inner(alloc, cursor, outside)?;
+    let test = parse_condition(alloc, cursor)?;
+    let yes = parse_inner_statement(alloc, cursor, outside)?;
     if !cursor.is_at_else() {
         cursor.room = outside;
-        return Ok(branch_tree(alloc, from, test, yes)?);
+        return Ok(if_stmt(alloc, from, test, yes)?);
     }
-    cursor.take()?;
-    let no = inner(alloc, cursor, outside)?;
+    cursor.advance()?;
+    let no = parse_inner_statement(alloc, cursor, outside)?;
     cursor.room = outside;
-    Ok(branch_or_else(alloc, from, test, yes, no)?)
+    Ok(if_else_stmt(alloc, from, test, yes, no)?)
 }
 
-/// A `while`.
+/// Parses a `while`.
 #[cycle(statement)]
-fn while_loop(alloc: Global, cursor: &mut Cursor<'_>) -> Result<Stmt, Stop>
-    ensures { Gives code (spec.while_loop (spec.under cursor.old.room) cursor.old.room cursor.old.rest.now) result cursor.new.room cursor.new.rest.now }
+fn parse_while(alloc: Global, cursor: &mut Cursor<'_>) -> Result<Stmt, Stop>
+    ensures { Parses code (parts.with_inner spec.while_loop) cursor.old result cursor.new }
 {
     let outside = cursor.room;
     let from = cursor.open()?;
-    let test = tested(alloc, cursor)?;
-    let body = inner(alloc, cursor, outside)?;
+    let test = parse_condition(alloc, cursor)?;
+    let body = parse_inner_statement(alloc, cursor, outside)?;
     cursor.room = outside;
-    Ok(while_tree(alloc, from, test, body)?)
+    Ok(while_stmt(alloc, from, test, body)?)
 }
 
-/// `while ( expression ) ;` behind the body of a `do`, outside of which there is that room, with the text of the `;`.
-fn do_end(alloc: Global, cursor: &mut Cursor<'_>, outside: u8) -> Result<(Expr, Span), Stop>
-    ensures { Gives seen.ended (parts.do_end outside cursor.old.room cursor.old.rest.now) result cursor.new.room cursor.new.rest.now }
+/// Parses `while ( expression ) ;` after the body of a `do`, outside of which there is that room: the condition, and
+/// the span of the `;`.
+fn parse_do_end(alloc: Global, cursor: &mut Cursor<'_>, outside: u8) -> Result<(Expr, Span), Stop>
+    ensures { Parses seen.ended (parts.do_end outside) cursor.old result cursor.new }
 {
-    cursor.while_word()?;
-    let test = tested(alloc, cursor)?;
+    cursor.expect_while()?;
+    let test = parse_condition(alloc, cursor)?;
     cursor.room = outside;
-    let to = cursor.semicolon()?;
+    let to = cursor.expect_semicolon()?;
     Ok((test, to))
 }
 
-/// A `do`.
+/// Parses a `do`.
 #[cycle(statement)]
-fn do_loop(alloc: Global, cursor: &mut Cursor<'_>) -> Result<Stmt, Stop>
-    ensures { Gives code (spec.do_loop (spec.under cursor.old.room) cursor.old.room cursor.old.rest.now) result cursor.new.room cursor.new.rest.now }
+fn parse_do(alloc: Global, cursor: &mut Cursor<'_>) -> Result<Stmt, Stop>
+    ensures { Parses code (parts.with_inner spec.do_loop) cursor.old result cursor.new }
 {
     let outside = cursor.room;
     let from = cursor.open()?;
-    let body = inner(alloc, cursor, outside)?;
-    let (test, to) = do_end(alloc, cursor, outside)?;
-    Ok(do_tree(alloc, body, test, over(from, to))?)
+    let body = parse_inner_statement(alloc, cursor, outside)?;
+    let (test, to) = parse_do_end(alloc, cursor, outside)?;
+    Ok(do_stmt(alloc, body, test, span_over(from, to))?)
 }
 
-/// A `for`.
+/// Parses a `for`.
 #[cycle(statement)]
-fn for_loop(alloc: Global, cursor: &mut Cursor<'_>) -> Result<Stmt, Stop>
-    ensures { Gives code (spec.for_loop (spec.under cursor.old.room) cursor.old.room cursor.old.rest.now) result cursor.new.room cursor.new.rest.now }
+fn parse_for(alloc: Global, cursor: &mut Cursor<'_>) -> Result<Stmt, Stop>
+    ensures { Parses code (parts.with_inner spec.for_loop) cursor.old result cursor.new }
 {
     let outside = cursor.room;
     let from = cursor.open()?;
-    let (init, test, step) = clauses(alloc, cursor)?;
-    let body = inner(alloc, cursor, outside)?;
+    let (init, test, step) = parse_for_clauses(alloc, cursor)?;
+    let body = parse_inner_statement(alloc, cursor, outside)?;
     cursor.room = outside;
-    Ok(for_tree(alloc, from, init, test, step, body)?)
+    Ok(for_stmt(alloc, from, init, test, step, body)?)
 }
 
-/// A statement.
+/// Parses a statement.
 #[cycle(statement)]
-fn statement(alloc: Global, cursor: &mut Cursor<'_>) -> Result<Stmt, Stop>
-    ensures { Gives code (spec.statement (spec.under cursor.old.room) cursor.old.room cursor.old.rest.now) result cursor.new.room cursor.new.rest.now }
+fn parse_statement(alloc: Global, cursor: &mut Cursor<'_>) -> Result<Stmt, Stop>
+    ensures { Parses code (parts.with_inner spec.statement) cursor.old result cursor.new }
 {
-    match cursor.lead() {
-        Lead::Semicolon => empty(cursor),
-        Lead::OpenBrace => block(alloc, cursor),
-        Lead::If => branch(alloc, cursor),
-        Lead::While => while_loop(alloc, cursor),
-        Lead::Do => do_loop(alloc, cursor),
-        Lead::For => for_loop(alloc, cursor),
-        Lead::Return => give(alloc, cursor),
-        Lead::Break => leave(cursor),
-        Lead::Continue => go_on(cursor),
-        _ => act(alloc, cursor),
+    match cursor.peek() {
+        Lead::Semicolon => parse_empty(cursor),
+        Lead::OpenBrace => parse_block(alloc, cursor),
+        Lead::If => parse_if(alloc, cursor),
+        Lead::While => parse_while(alloc, cursor),
+        Lead::Do => parse_do(alloc, cursor),
+        Lead::For => parse_for(alloc, cursor),
+        Lead::Return => parse_return(alloc, cursor),
+        Lead::Break => parse_break(cursor),
+        Lead::Continue => parse_continue(cursor),
+        _ => parse_expression_statement(alloc, cursor),
     }
 }

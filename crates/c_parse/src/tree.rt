@@ -1,4 +1,4 @@
-//! Trees from their parts, each with the text from its first token to its last.
+//! Builders of trees: each node with the span from its first token to its last.
 
 ghost use Rattle.std.specs.Prelude.{◌≡◌, map, IfOk, Some, None, true, false};
 ghost use Rattle.c_tree.specs.declared.stmt.Slot.TheVariants.{Unset};
@@ -6,10 +6,12 @@ ghost use Rattle.c_tree.specs.Parts.{span_of};
 ghost use Rattle.c_tree.specs.Tree as plain;
 ghost use Rattle.c_tree.specs.Views.{tree, tree_option, initial, variable, first, code, body_of, outer};
 ghost use Rattle.c_grammar.specs.Grammar as grammar;
+ghost use Rattle.c_grammar.specs.Grammar.{over};
 ghost use Rattle.c_grammar.specs.Programs as programs;
+ghost use Rattle.c_grammar.specs.Programs.{code_span};
 ghost use Rattle.c_parse.specs.Gives.{given};
 
-use crate::cursor::over;
+use crate::cursor::span_over;
 use c_tree::{
     Arg, BinOp, Declarator, Expr, ExprNode, External, Func, Init, Item, NoMemory, Param, Shape,
     Slot, Span, Start, Stmt, StmtNode, Text, Ty, UnOp,
@@ -17,7 +19,7 @@ use c_tree::{
 use std::alloc::Global;
 
 /// A constant.
-pub fn constant(value: i64, word: Text, span: Span) -> Expr
+pub fn const_expr(value: i64, word: Text, span: Span) -> Expr
     ensures { tree result ≡ plain.constant value word span }
 {
     Expr {
@@ -27,7 +29,7 @@ pub fn constant(value: i64, word: Text, span: Span) -> Expr
 }
 
 /// A variable.
-pub fn name(word: Text, span: Span) -> Expr
+pub fn name_expr(word: Text, span: Span) -> Expr
     ensures { tree result ≡ plain.name word Unset span }
 {
     Expr {
@@ -40,7 +42,7 @@ pub fn name(word: Text, span: Span) -> Expr
 }
 
 /// An element of an array.
-pub fn element(alloc: Global, word: Text, index: Expr, span: Span) -> Result<Expr, NoMemory>
+pub fn index_expr(alloc: Global, word: Text, index: Expr, span: Span) -> Result<Expr, NoMemory>
     ensures { IfOk result (λ e. tree e ≡ plain.index word Unset (tree index) span) }
 {
     Ok(Expr {
@@ -54,7 +56,7 @@ pub fn element(alloc: Global, word: Text, index: Expr, span: Span) -> Result<Exp
 }
 
 /// A call.
-pub fn call(word: Text, args: Vec<Arg>, span: Span) -> Expr
+pub fn call_expr(word: Text, args: Vec<Arg>, span: Span) -> Expr
     ensures { tree result ≡ plain.call word (grammar.args (map given args.items)) span }
 {
     Expr {
@@ -63,8 +65,8 @@ pub fn call(word: Text, args: Vec<Arg>, span: Span) -> Expr
     }
 }
 
-/// The same expression with the text of the parentheses round it.
-pub fn wrapped(span: Span, inner: Expr) -> Expr
+/// The same expression with the span of the parentheses around it.
+pub fn parenthesized(span: Span, inner: Expr) -> Expr
     ensures { tree result ≡ grammar.wrapped span (tree inner) }
 {
     Expr {
@@ -74,10 +76,10 @@ pub fn wrapped(span: Span, inner: Expr) -> Expr
 }
 
 /// `++` or `--` before a place.
-pub fn bumped_before(alloc: Global, up: bool, from: Span, place: Expr) -> Result<Expr, NoMemory>
-    ensures { IfOk result (λ e. tree e ≡ plain.bump true up (tree place) (grammar.over from (span_of (tree place)))) }
+pub fn prefix_bump_expr(alloc: Global, up: bool, from: Span, place: Expr) -> Result<Expr, NoMemory>
+    ensures { IfOk result (λ e. tree e ≡ plain.bump true up (tree place) (over from (span_of (tree place)))) }
 {
-    let span = over(from, place.span);
+    let span = span_over(from, place.span);
     Ok(Expr {
         node: ExprNode::Bump {
             before: true,
@@ -88,11 +90,11 @@ pub fn bumped_before(alloc: Global, up: bool, from: Span, place: Expr) -> Result
     })
 }
 
-/// `++` or `--` behind a place.
-pub fn bumped_after(alloc: Global, up: bool, place: Expr, to: Span) -> Result<Expr, NoMemory>
-    ensures { IfOk result (λ e. tree e ≡ plain.bump false up (tree place) (grammar.over (span_of (tree place)) to)) }
+/// `++` or `--` after a place.
+pub fn postfix_bump_expr(alloc: Global, up: bool, place: Expr, to: Span) -> Result<Expr, NoMemory>
+    ensures { IfOk result (λ e. tree e ≡ plain.bump false up (tree place) (over (span_of (tree place)) to)) }
 {
-    let span = over(place.span, to);
+    let span = span_over(place.span, to);
     Ok(Expr {
         node: ExprNode::Bump {
             before: false,
@@ -103,11 +105,11 @@ pub fn bumped_after(alloc: Global, up: bool, place: Expr, to: Span) -> Result<Ex
     })
 }
 
-/// An operator before its operand.
-pub fn prefixed(alloc: Global, op: UnOp, from: Span, of: Expr) -> Result<Expr, NoMemory>
+/// A prefix operator and its operand.
+pub fn unary_expr(alloc: Global, op: UnOp, from: Span, of: Expr) -> Result<Expr, NoMemory>
     ensures { IfOk result (λ e. tree e ≡ grammar.prefixed op from (tree of)) }
 {
-    let span = over(from, of.span);
+    let span = span_over(from, of.span);
     Ok(Expr {
         node: ExprNode::Unary {
             op,
@@ -118,10 +120,10 @@ pub fn prefixed(alloc: Global, op: UnOp, from: Span, of: Expr) -> Result<Expr, N
 }
 
 /// `(type) operand`
-pub fn converted(alloc: Global, from: Span, ty: Ty, of: Expr) -> Result<Expr, NoMemory>
-    ensures { IfOk result (λ e. tree e ≡ plain.cast ty (tree of) (grammar.over from (span_of (tree of)))) }
+pub fn cast_expr(alloc: Global, from: Span, ty: Ty, of: Expr) -> Result<Expr, NoMemory>
+    ensures { IfOk result (λ e. tree e ≡ plain.cast ty (tree of) (over from (span_of (tree of)))) }
 {
-    let span = over(from, of.span);
+    let span = span_over(from, of.span);
     Ok(Expr {
         node: ExprNode::Cast {
             ty,
@@ -131,11 +133,11 @@ pub fn converted(alloc: Global, from: Span, ty: Ty, of: Expr) -> Result<Expr, No
     })
 }
 
-/// An operator between its operands.
-pub fn joined(alloc: Global, op: BinOp, left: Expr, right: Expr) -> Result<Expr, NoMemory>
+/// A binary operator and its operands.
+pub fn binary_expr(alloc: Global, op: BinOp, left: Expr, right: Expr) -> Result<Expr, NoMemory>
     ensures { IfOk result (λ e. tree e ≡ grammar.joined op (tree left) (tree right)) }
 {
-    let span = over(left.span, right.span);
+    let span = span_over(left.span, right.span);
     Ok(Expr {
         node: ExprNode::Binary {
             op,
@@ -147,10 +149,10 @@ pub fn joined(alloc: Global, op: BinOp, left: Expr, right: Expr) -> Result<Expr,
 }
 
 /// `test ? yes : no`
-pub fn chosen(alloc: Global, test: Expr, yes: Expr, no: Expr) -> Result<Expr, NoMemory>
+pub fn conditional_expr(alloc: Global, test: Expr, yes: Expr, no: Expr) -> Result<Expr, NoMemory>
     ensures { IfOk result (λ e. tree e ≡ grammar.chosen (tree test) (tree yes) (tree no)) }
 {
-    let span = over(test.span, no.span);
+    let span = span_over(test.span, no.span);
     Ok(Expr {
         node: ExprNode::Choice {
             test: Box::new(alloc, test)?,
@@ -161,8 +163,8 @@ pub fn chosen(alloc: Global, test: Expr, yes: Expr, no: Expr) -> Result<Expr, No
     })
 }
 
-/// `place = value`, or with an operator before the `=`.
-pub fn assigned(
+/// `place = value`, or `place op= value`.
+pub fn assign_expr(
     alloc: Global,
     op: Option<BinOp>,
     place: Expr,
@@ -170,7 +172,7 @@ pub fn assigned(
 ) -> Result<Expr, NoMemory>
     ensures { IfOk result (λ e. tree e ≡ grammar.assigned op (tree place) (tree value)) }
 {
-    let span = over(place.span, value.span);
+    let span = span_over(place.span, value.span);
     Ok(Expr {
         node: ExprNode::Assign {
             op,
@@ -182,10 +184,10 @@ pub fn assigned(
 }
 
 /// `left, right`
-pub fn followed(alloc: Global, left: Expr, right: Expr) -> Result<Expr, NoMemory>
+pub fn comma_expr(alloc: Global, left: Expr, right: Expr) -> Result<Expr, NoMemory>
     ensures { IfOk result (λ e. tree e ≡ grammar.followed (tree left) (tree right)) }
 {
-    let span = over(left.span, right.span);
+    let span = span_over(left.span, right.span);
     Ok(Expr {
         node: ExprNode::Comma {
             left: Box::new(alloc, left)?,
@@ -196,7 +198,7 @@ pub fn followed(alloc: Global, left: Expr, right: Expr) -> Result<Expr, NoMemory
 }
 
 /// A declared variable.
-pub fn declared(word: Text, span: Span, shape: Shape, start: Start) -> Declarator
+pub fn declarator(word: Text, span: Span, shape: Shape, start: Start) -> Declarator
     ensures { variable result ≡ programs.variable word span shape (initial start) }
 {
     Declarator {
@@ -209,10 +211,10 @@ pub fn declared(word: Text, span: Span, shape: Shape, start: Start) -> Declarato
 }
 
 /// An expression statement.
-pub fn acting(of: Expr, to: Span) -> Stmt
-    ensures { code result ≡ plain.act (tree of) (grammar.over (span_of (tree of)) to) }
+pub fn expr_stmt(of: Expr, to: Span) -> Stmt
+    ensures { code result ≡ plain.act (tree of) (over (span_of (tree of)) to) }
 {
-    let span = over(of.span, to);
+    let span = span_over(of.span, to);
     Stmt {
         node: StmtNode::Act(of),
         span,
@@ -220,20 +222,21 @@ pub fn acting(of: Expr, to: Span) -> Stmt
 }
 
 /// `{ items }`
-pub fn in_braces(from: Span, items: Vec<Item>, to: Span) -> Stmt
-    ensures { code result ≡ plain.block (body_of items.items) (grammar.over from to) }
+pub fn block_stmt(from: Span, items: Vec<Item>, to: Span) -> Stmt
+    ensures { code result ≡ plain.block (body_of items.items) (over from to) }
 {
     Stmt {
         node: StmtNode::Block(items),
-        span: over(from, to),
+        span: span_over(from, to),
     }
 }
 
 /// `if (test) yes`
-pub fn branch(alloc: Global, from: Span, test: Expr, yes: Stmt) -> Result<Stmt, NoMemory>
-    ensures { IfOk result (λ s. code s ≡ plain.if_then (tree test) (code yes) (grammar.over from (programs.code_span (code yes)))) }
+pub fn if_stmt(alloc: Global, from: Span, test: Expr, yes: Stmt) -> Result<Stmt, NoMemory>
+    ensures { IfOk result (λ s.
+        code s ≡ plain.if_then (tree test) (code yes) (over from (code_span (code yes)))) }
 {
-    let span = over(from, yes.span);
+    let span = span_over(from, yes.span);
     Ok(Stmt {
         node: StmtNode::If {
             test,
@@ -245,16 +248,17 @@ pub fn branch(alloc: Global, from: Span, test: Expr, yes: Stmt) -> Result<Stmt, 
 }
 
 /// `if (test) yes else no`
-pub fn branch_or_else(
+pub fn if_else_stmt(
     alloc: Global,
     from: Span,
     test: Expr,
     yes: Stmt,
     no: Stmt,
 ) -> Result<Stmt, NoMemory>
-    ensures { IfOk result (λ s. code s ≡ plain.if_else (tree test) (code yes) (code no) (grammar.over from (programs.code_span (code no)))) }
+    ensures { IfOk result (λ s.
+        code s ≡ plain.if_else (tree test) (code yes) (code no) (over from (code_span (code no)))) }
 {
-    let span = over(from, no.span);
+    let span = span_over(from, no.span);
     Ok(Stmt {
         node: StmtNode::If {
             test,
@@ -266,10 +270,11 @@ pub fn branch_or_else(
 }
 
 /// `while (test) body`
-pub fn while_loop(alloc: Global, from: Span, test: Expr, body: Stmt) -> Result<Stmt, NoMemory>
-    ensures { IfOk result (λ s. code s ≡ plain.while (tree test) (code body) (grammar.over from (programs.code_span (code body)))) }
+pub fn while_stmt(alloc: Global, from: Span, test: Expr, body: Stmt) -> Result<Stmt, NoMemory>
+    ensures { IfOk result (λ s.
+        code s ≡ plain.while (tree test) (code body) (over from (code_span (code body)))) }
 {
-    let span = over(from, body.span);
+    let span = span_over(from, body.span);
     Ok(Stmt {
         node: StmtNode::While {
             test,
@@ -280,7 +285,7 @@ pub fn while_loop(alloc: Global, from: Span, test: Expr, body: Stmt) -> Result<S
 }
 
 /// `do body while (test);`
-pub fn do_loop(alloc: Global, body: Stmt, test: Expr, span: Span) -> Result<Stmt, NoMemory>
+pub fn do_stmt(alloc: Global, body: Stmt, test: Expr, span: Span) -> Result<Stmt, NoMemory>
     ensures { IfOk result (λ s. code s ≡ plain.do_while (code body) (tree test) span) }
 {
     Ok(Stmt {
@@ -293,7 +298,7 @@ pub fn do_loop(alloc: Global, body: Stmt, test: Expr, span: Span) -> Result<Stmt
 }
 
 /// `for (init test; step) body`
-pub fn for_loop(
+pub fn for_stmt(
     alloc: Global,
     from: Span,
     init: Init,
@@ -301,9 +306,11 @@ pub fn for_loop(
     step: Option<Expr>,
     body: Stmt,
 ) -> Result<Stmt, NoMemory>
-    ensures { IfOk result (λ s. code s ≡ plain.for (first init) (tree_option test) (tree_option step) (code body) (grammar.over from (programs.code_span (code body)))) }
+    ensures { IfOk result (λ s.
+        code s ≡ plain.for (first init) (tree_option test) (tree_option step) (code body)
+        (over from (code_span (code body)))) }
 {
-    let span = over(from, body.span);
+    let span = span_over(from, body.span);
     Ok(Stmt {
         node: StmtNode::For {
             init,
@@ -315,8 +322,8 @@ pub fn for_loop(
     })
 }
 
-/// `return` with a value or none.
-pub fn giving(value: Option<Expr>, span: Span) -> Stmt
+/// `return`, with a value or with none.
+pub fn return_stmt(value: Option<Expr>, span: Span) -> Stmt
     ensures { code result ≡ plain.give (tree_option value) span }
 {
     Stmt {
@@ -351,8 +358,8 @@ pub fn prototype(word: Text, span: Span, ret: Option<Ty>, params: Vec<Param>) ->
     })
 }
 
-/// A definition of a function.
-pub fn definition(
+/// A function with its body.
+pub fn function_definition(
     word: Text,
     span: Span,
     ret: Option<Ty>,

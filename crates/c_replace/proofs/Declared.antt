@@ -18,8 +18,8 @@ use Rattle.c_replace.proofs.Forms as form
 use Rattle.c_replace.proofs.Forms.{LengthIn, bare_length, VarsIn, bare_vars}
 
 -- own tokens of a part, of which the kinds are known
-abbrev pub own_part : {X : Type 0} {R : ℕ → Tokens → Tokens → X → Type 0} {bare : X
-    → X} {a b : Tokens} {x : X} (own : Tokens) (ks : List TokenKind) → a ≡ own ++ b → kinds own ≡ ks
+abbrev pub own_part : {X : Type 0} {R : ℕ → Tokens → Tokens → X → Type 0} {bare : X → X} {a b : Tokens}
+    {x : X} (own : Tokens) (ks : List TokenKind) → a ≡ own ++ b → kinds own ≡ ks
     → Formed R bare ks (bare x)
     → OwnPart R bare a b x
 own_part {R = R} {bare = bare} {x = x} own ks e f g = record {

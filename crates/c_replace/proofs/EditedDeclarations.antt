@@ -97,8 +97,8 @@ module _ (l : Loc) where
         splits = ap (λ q. (kind.Name w, s) ∷ q) o.splits;
         edited = λ lo hi r. Edited.kept refl (λ how. form.array w o.formed);
       }
-  declarator (Declarator.array_list {c = c} {w = w} {s = s} {e = n} {o = i} {p = j} {q = k} {n =
-      size} {ts = ts} d e) =
+  declarator (Declarator.array_list {c = c} {w = w} {s = s} {e = n} {o = i} {p = j} {q = k} {n = size}
+      {ts = ts} d e) =
       let o = owned_length d in
       let p = elements e in
       let middle : Tokens = (kind.Punct mark.Assign, i) ∷ (kind.Punct mark.OpenBrace, j) ∷ [] in

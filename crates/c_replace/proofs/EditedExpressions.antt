@@ -1,6 +1,6 @@
 -- An expression and a location: it holds the location, as the right side of an assignment in it, or
 -- stays what it is.
-use Rattle.std.proofs.Common.{◌≡◌, ◌⊎◌, inl, inr, ℕ, Bool, true, false, cond, if◌then◌else◌, List, [], ◌∷◌, ◌++◌, Option, Some, None, refl, sym, ap, ◌∙◌, subst, arith, append_assoc, length, length-append, find}
+use Rattle.std.proofs.Common.{◌≡◌, ◌⊎◌, inl, inr, ℕ, Bool, true, false, cond, if◌then◌else◌, List, [], ◌∷◌, ◌++◌, map, Option, Some, None, refl, sym, ap, ◌∙◌, subst, arith, append_assoc, length, length-append, find}
 use Rattle.std.proofs.lemmas.List.{append-nil}
 use Rattle.c_lex.specs.declared.token.TokenKind.{TokenKind}
 use Rattle.c_lex.specs.declared.token.TokenKind.TheVariants as kind
@@ -23,7 +23,8 @@ use Rattle.c_grammar.specs.declared.part.Part.{Part}
 use Rattle.c_grammar.specs.declared.part.Part.TheVariants.{Expression, Assignment, Conditional, Binary, Cast, Unary, Primary}
 use Rattle.c_grammar.specs.Operators.{type_word, weakest, assignment_operator}
 use Rattle.c_grammar.specs.Grammar.{Tokens, over, wrapped, Given, by_value, by_format, by_address, args, Reads, Argument, Arguments}
-use Rattle.c_replace.specs.Shapes.{Shaped, ShapedArgument, ShapedArguments, bare_given, is_other, is_settled, Own}
+use Rattle.c_replace.specs.Shapes.{Shaped, is_other, is_settled, Own}
+use Rattle.c_replace.specs.Forms.{Formed, bare_given}
 use Rattle.c_replace.specs.Replacing.{Fits}
 use Rattle.c_replace.proofs.LocationKinds.{stands_is}
 use Rattle.c_replace.proofs.Splits.{settled_append}
@@ -89,13 +90,14 @@ in_given (by_value t) = in_tree t
 in_given (by_format w s) = []
 in_given (by_address t) = in_tree t
 
--- one argument before others, with the part at the location rewritten
-put_more : (l : Loc) (how : Rewrite) (g : Given) (gs : List Given)
-    → bare_args (to_args l how (args (g ∷ gs))) ≡ shape.put_bare (bare_given (given_to l how g))
-    (bare_args (to_args l how (args gs)))
-put_more l how (by_value t) gs = refl
-put_more l how (by_format w s) gs = refl
-put_more l how (by_address t) gs = refl
+-- arguments with the part at the location rewritten, without spans, slots and the spelling of
+-- constants, one by one
+args_to : (l : Loc) (how : Rewrite) (gs : List Given)
+    → bare_args (to_args l how (args gs)) ≡ args (map bare_given (map (given_to l how) gs))
+args_to l how [] = refl
+args_to l how (by_value t ∷ gs) = ap (tree.value (bare (to_tree l how t))) (args_to l how gs)
+args_to l how (by_format w s ∷ gs) = ap (tree.format w tree.no_span) (args_to l how gs)
+args_to l how (by_address t ∷ gs) = ap (tree.address (bare (to_tree l how t))) (args_to l how gs)
 
 -- the locations in arguments are those in the first and those in the others
 args_locs : (g : Given) (gs : List Given) → in_args (args (g ∷ gs)) ≡ in_given g ++ in_args (args gs)
@@ -120,6 +122,7 @@ module _ (l : Loc) where
 
   -- ---- forms
 
+  -- the same tokens as another kind
   raise : {N M : Part} {a b : Tokens} {t : Tree} → EditedTree N a b t
       → ((ks : List TokenKind) (u : Tree) → Shaped N ks u → Shaped M ks u) → EditedTree M a b t
   raise {t = t} o f = record {
@@ -194,11 +197,9 @@ module _ (l : Loc) where
   pub owned_as : {N : Part} {a b : Tokens} {t : Tree} → Own N a b t → (o : EditedTree N a b t)
       → Shaped N (kinds o.own) (bare t) × (is_settled o.own ≡ true)
   owned_as {N} {b = b} {t = t} w o =
-      let same = prefix_same w.own o.own b (sym w.splits ∙ o.splits) in (
-        subst (λ q. Shaped N (kinds q) (bare t)) same w.shaped,
-        subst
-            (λ q. is_settled q ≡ true) same w.settled,
-      )
+      let same = prefix_same w.own o.own b (sym w.splits ∙ o.splits) in
+      let shaped = subst (λ q. Shaped N (kinds q) (bare t)) same w.shaped in
+      (shaped, subst (λ q. is_settled q ≡ true) same w.settled)
 
   -- a right side, by whether it is the location
   side_by : {N : Part} {a b : Tokens} {t : Tree} (w : Own N a b t) (o : EditedTree N a b t)
@@ -245,7 +246,7 @@ module _ (l : Loc) where
 
   -- all tokens of these kinds are the argument, rewritten
   abbrev GivenKinds : Given → List TokenKind → Rewrite → Type 0
-  GivenKinds g ks how = ShapedArgument ks (bare_given (given_to l how g))
+  GivenKinds g ks how = Formed Argument bare_given ks (bare_given (given_to l how g))
 
   -- the own tokens of an argument
   record EditedArgument (a b : Tokens) (g : Given) : Type 0 where
@@ -255,7 +256,7 @@ module _ (l : Loc) where
 
   -- all tokens of these kinds are the arguments, rewritten
   abbrev ArgsKinds : List Given → List TokenKind → Rewrite → Type 0
-  ArgsKinds gs ks how = ShapedArguments ks (bare_args (to_args l how (args gs)))
+  ArgsKinds gs ks how = Formed Arguments (map bare_given) ks (map bare_given (map (given_to l how) gs))
 
   -- the own tokens of arguments
   record EditedArguments (a b : Tokens) (gs : List Given) : Type 0 where
@@ -298,7 +299,11 @@ module _ (l : Loc) where
         carry ((kind.Name w, s) ∷ (kind.Punct mark.OpenParen, o) ∷ [])
         ((kind.Punct mark.CloseParen, e) ∷ []) refl
         (further ((kind.Name w, s) ∷ (kind.Punct mark.OpenParen, o) ∷ [])) refl
-        (λ ks how y. shape.call w y) (x.edited o.to at.0 at.1);
+        (λ ks how y. subst
+        (λ q. Shaped Primary (kind.Name w ∷ kind.Punct mark.OpenParen ∷
+        (ks ++ kind.Punct mark.CloseParen ∷ []))
+        (tree.call w q tree.no_span)) (sym (args_to l how gs)) (shape.call w y))
+        (x.edited o.to at.0 at.1);
   }
 
   -- an expression in parentheses
@@ -462,13 +467,13 @@ module _ (l : Loc) where
         let o = edited_tree d in record {
           own = o.own;
           splits = o.splits;
-          edited = λ lo hi r. carry_last [] refl (λ q h. h) refl (λ ks how x. shape.by_value_shaped x)
+          edited = λ lo hi r. carry_last [] refl (λ q h. h) refl (λ ks how x. shape.argument_value x)
               (o.edited lo hi r);
         }
     edited_argument (Argument.format {w = w} {s = s}) = record {
       own = (kind.Str w, s) ∷ [];
       splits = refl;
-      edited = λ lo hi r. Edited.kept refl (λ how. shape.by_format_shaped w);
+      edited = λ lo hi r. Edited.kept refl (λ how. shape.argument_format w);
     }
     edited_argument (Argument.address {s = s} d) =
         let o = edited_tree d in
@@ -476,7 +481,7 @@ module _ (l : Loc) where
           own = (kind.Punct mark.And, s) ∷ o.own;
           splits = ap (λ q. (kind.Punct mark.And, s) ∷ q) o.splits;
           edited = λ lo hi r. carry_last ((kind.Punct mark.And, s) ∷ []) refl
-              (further ((kind.Punct mark.And, s) ∷ [])) refl (λ ks how x. shape.by_address_shaped x)
+              (further ((kind.Punct mark.And, s) ∷ [])) refl (λ ks how x. shape.argument_address x)
               (o.edited s.to hi r.2);
         }
 
@@ -490,8 +495,7 @@ module _ (l : Loc) where
           splits = o.splits;
           edited = λ lo hi r. carry_last [] refl (λ q h. h)
               (ap (find (is_at l)) (args_locs g []) ∙ found_alone l (in_given g))
-              (λ ks how x. subst (ShapedArguments ks) (sym (put_more l how g []))
-              (shape.last_argument x)) (o.edited lo hi r);
+              (λ ks how x. shape.arguments_last x) (o.edited lo hi r);
         }
     edited_arguments (Arguments.more {c = c} {g = g} {gs = gs} {s = s} d e) =
         let o = edited_argument d in
@@ -505,7 +509,6 @@ module _ (l : Loc) where
               two_last [] o.own ((kind.Punct mark.Comma, s) ∷ []) p.own
               (o.own ++ (kind.Punct mark.Comma, s) ∷ p.own) refl (λ q h. h)
               (further (o.own ++ (kind.Punct mark.Comma, s) ∷ []))
-              (λ ks js how x y. subst (ShapedArguments (ks ++ kind.Punct mark.Comma ∷ js))
-              (sym (put_more l how g gs)) (shape.more_arguments x y)) (args_locs g gs) lo hi r
+              (λ ks js how x y. shape.arguments_more x y) (args_locs g gs) lo hi r
               (o.edited lo at.0 at.1) (p.edited s.to hi at.2.2);
         }

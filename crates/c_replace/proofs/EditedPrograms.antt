@@ -291,8 +291,8 @@ module _ (l : Loc) where
               (o.own ++ (kind.Punct mark.CloseParen, e) ∷ []))) (λ ks js how x z. shape.while x z)
               refl lo hi r (o.edited p.to at.0 at.1) (g.edited e.to hi at.2.2);
         }
-    statement (Statement.if_else {o = wide} {d = rest} {s = s} {p = p} {e = e} {q = q} {t = t} {y =
-        y} {z = z} d f h) =
+    statement (Statement.if_else {o = wide} {d = rest} {s = s} {p = p} {e = e} {q = q} {t = t} {y = y}
+        {z = z} d f h) =
         let o = test d in
         let g = statement f in
         let w = statement h in
@@ -331,8 +331,8 @@ module _ (l : Loc) where
               (append_assoc (in_condition t) (in_code y) (in_code z)) lo hi r
               (o.edited p.to at.0 at.1) both;
         }
-    statement (Statement.do_while {c = rest} {s = s} {w = w} {p = p} {e = e} {q = q} {t = t} {y =
-        y} d f) =
+    statement (Statement.do_while {c = rest} {s = s} {w = w} {p = p} {e = e} {q = q} {t = t} {y = y} d
+        f) =
         let g = statement d in
         let o = test f in
         let end : Tokens = (kind.Punct mark.CloseParen, e) ∷ (kind.Punct mark.Semicolon, q) ∷ [] in
@@ -363,8 +363,8 @@ module _ (l : Loc) where
               (λ js ks how x z. shape.do_while x z)
               refl lo hi r (g.edited s.to at.0 at.1) (o.edited p.to more.0 more.1);
         }
-    statement (Statement.for {o = wide} {f = rest} {s = s} {p = p} {e = e} {q = q} {i = i} {t = t} {u =
-        u} {y = y} c x v f) =
+    statement (Statement.for {o = wide} {f = rest} {s = s} {p = p} {e = e} {q = q} {i = i} {t = t}
+        {u = u} {y = y} c x v f) =
         let m = first_clause l c in
         let o = optional x in
         let k = step l v in
@@ -524,8 +524,8 @@ module _ (l : Loc) where
     splits = v.splits;
     edited = λ lo hi r. Edited.kept refl (λ how. shape.outer_vars v.formed);
   }
-  external (External.prototype {b = b} {k = k} {w = w} {o = o} {s = s} {p = p} {e = e} {q = q} {ret =
-      ret} {xs = xs} f d) =
+  external (External.prototype {b = b} {k = k} {w = w} {o = o} {s = s} {p = p} {e = e} {q = q}
+      {ret = ret} {xs = xs} f d) =
       let g = owned_signature d in
       let end : Tokens = (kind.Punct mark.CloseParen, e) ∷ (kind.Punct mark.Semicolon, q) ∷ [] in
       record {
@@ -538,8 +538,8 @@ module _ (l : Loc) where
             (to_outer l how (function w (over s q) ret xs None)))) (sym (kinds_append g.own end))
             (shape.prototype k w ret f g.formed));
       }
-  external (External.definition {c = c} {k = k} {w = w} {o = o} {s = s} {p = p} {e = e} {q = q} {z =
-      z} {ret = ret} {xs = xs} {body = body} f d h) =
+  external (External.definition {c = c} {k = k} {w = w} {o = o} {s = s} {p = p} {e = e} {q = q} {z = z}
+      {ret = ret} {xs = xs} {body = body} f d h) =
       let g = owned_signature d in
       let m = items h in
       let middle : Tokens = (kind.Punct mark.CloseParen, e) ∷ (kind.Punct mark.OpenBrace, q) ∷ [] in

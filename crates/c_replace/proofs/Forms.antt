@@ -1,5 +1,5 @@
 -- Each production of declarations, by the kinds of its tokens alone.
-use Rattle.std.proofs.Common.{◌≡◌, ℕ, ℤ, suc, ◌+◌, ◌≤◌, true, false, List, [], ◌∷◌, ◌++◌, map, Option, Some, None, refl, sym, ap, ◌∙◌, subst, arith, append_assoc}
+use Rattle.std.proofs.Common.{◌≡◌, ℕ, ℤ, suc, ◌+◌, true, false, List, [], ◌∷◌, ◌++◌, map, Option, Some, None, refl, sym, ap, ◌∙◌, subst, arith, append_assoc}
 use Rattle.c_lex.specs.declared.token.TokenKind.{TokenKind}
 use Rattle.c_lex.specs.declared.token.TokenKind.TheVariants as kind
 use Rattle.c_lex.specs.declared.token.Keyword.{Keyword}
@@ -16,10 +16,10 @@ use Rattle.c_grammar.specs.declared.part.Part.TheVariants.{Expression, Assignmen
 use Rattle.c_grammar.specs.Operators.{type_word}
 use Rattle.c_grammar.specs.Grammar.{Tokens, over, Reads}
 use Rattle.c_grammar.specs.Programs.{variable, parameter, Length, Elements, Declarator, Declarators, Vars, Clause, Optional, Parameter, Parameters, Signature}
-use Rattle.c_lex.specs.Lexemes.{kinds}
 use Rattle.c_replace.specs.Shapes.{Shaped}
 use Rattle.c_replace.specs.Forms.{Formed}
-use Rattle.c_replace.proofs.Splits.{at_suc, cut, headed}
+use Rattle.c_replace.proofs.Splits.{at_suc, headed}
+use Rattle.c_replace.proofs.Ends.{got_end, got_then}
 
 -- the room after an expression is of no use to what holds it
 abbrev pub ReadsIn : Part → ℕ → Tokens → Tokens → Tree → Type 0
@@ -27,80 +27,18 @@ ReadsIn N r a b t = (m : ℕ) × Reads N r a m b t
 
 -- tokens of the kinds of an expression begin with the expression
 pub expr : {N : Part} {ks : List TokenKind} {t : Tree} → Shaped N ks t → Formed (ReadsIn N) bare ks t
-expr {N} {ks} {t} x = record {
+expr x = record {
   each = λ ls a e.
-      let c = cut a ks ls e in
-      let s = x.each c.first c.first_kinds in
+      let g = x.each ls a e in
       record {
-        rest = c.second;
-        rest_kinds = c.second_kinds;
-        need = s.need;
-        found = s.found;
-        is_bare = s.is_bare;
-        reads = λ r l. let d = s.reads r l c.second in
-            (d.0, subst (λ q. Reads N r q d.0 c.second s.found) (sym c.consists) d.2);
+        rest = g.rest;
+        rest_kinds = g.rest_kinds;
+        need = g.need;
+        found = g.found;
+        is_bare = g.is_bare;
+        reads = λ r l. let d = g.reads r l in (d.0, d.2);
       };
 }
-
--- an expression and the token after it
-pub record GotEnd (N : Part) (k : TokenKind) (ls : List TokenKind) (a : Tokens)
-    (t : Tree) : Type 0 where
-  pub span : Span
-  pub rest : Tokens
-  pub rest_kinds : kinds rest ≡ ls
-  pub need : ℕ
-  pub found : Tree
-  pub is_bare : bare found ≡ t
-  pub reads : (r : ℕ) → need ≤ r → (m : ℕ) × Reads N r a m ((k, span) ∷ rest) found
-
--- tokens of the kinds of an expression, a token and others begin with the expression and the token
-pub got_end : {N : Part} {ks : List TokenKind} {t : Tree} (k : TokenKind) (ls : List TokenKind)
-    (a : Tokens) → Shaped N ks t → kinds a ≡ ks ++ k ∷ ls → GotEnd N k ls a t
-got_end {N} k ls a x e =
-    let g = (expr x).each (k ∷ ls) a e in
-    let h = headed g.rest k ls g.rest_kinds in
-    record {
-      span = h.span;
-      rest = h.tail;
-      rest_kinds = h.tail_kinds;
-      need = g.need;
-      found = g.found;
-      is_bare = g.is_bare;
-      reads = λ r l. let d = g.reads r l in (
-        d.0,
-        subst
-            (λ q. Reads N r a d.0 q g.found) h.consists d.1,
-      );
-    }
-
--- a part and the token after it
-pub record GotThen {X : Type 0} (R : ℕ → Tokens → Tokens → X → Type 0) (bare : X → X) (k : TokenKind)
-    (ls : List TokenKind) (a : Tokens) (x : X) : Type 0 where
-  pub span : Span
-  pub rest : Tokens
-  pub rest_kinds : kinds rest ≡ ls
-  pub need : ℕ
-  pub found : X
-  pub is_bare : bare found ≡ x
-  pub reads : (r : ℕ) → need ≤ r → R r a ((k, span) ∷ rest) found
-
--- tokens of the kinds of a part, a token and others begin with the part and the token
-pub got_then : {X : Type 0} {R : ℕ → Tokens → Tokens → X → Type 0} {bare : X
-    → X} {ks : List TokenKind} {x : X} (k : TokenKind) (ls : List TokenKind) (a : Tokens)
-    → Formed R bare ks x → kinds a ≡ ks ++ k ∷ ls
-    → GotThen R bare k ls a x
-got_then {X} {R} k ls a f e =
-    let g = f.each (k ∷ ls) a e in
-    let h = headed g.rest k ls g.rest_kinds in
-    record {
-      span = h.span;
-      rest = h.tail;
-      rest_kinds = h.tail_kinds;
-      need = g.need;
-      found = g.found;
-      is_bare = g.is_bare;
-      reads = λ r l. subst (λ q. R r a q g.found) h.consists (g.reads r l);
-    }
 
 -- ---- expressions that may be absent
 
@@ -218,7 +156,7 @@ elements_last_comma {ks} x = record {
         need = g.need;
         found = g.found ∷ [];
         is_bare = ap (λ q. q ∷ []) g.is_bare;
-        reads = λ r l. Elements.last_comma (g.reads r l).1;
+        reads = λ r l. Elements.last_comma (g.reads r l).2;
       };
 }
 
@@ -237,7 +175,7 @@ elements_more {ks} {js} {t} x y = record {
         need = g.need + h.need;
         found = g.found ∷ h.found;
         is_bare = ap (λ q. q ∷ map bare h.found) g.is_bare ∙ ap (λ q. t ∷ q) h.is_bare;
-        reads = λ r l. Elements.more (g.reads r (omega arith)).1 (h.reads r (omega arith));
+        reads = λ r l. Elements.more (g.reads r (omega arith)).2 (h.reads r (omega arith));
       };
 }
 
@@ -428,7 +366,7 @@ clause_act {ks} x = record {
         need = g.need;
         found = tree.first_act g.found;
         is_bare = ap tree.first_act g.is_bare;
-        reads = λ r l. Clause.act (g.reads r l).1;
+        reads = λ r l. Clause.act (g.reads r l).2;
       };
 }
 

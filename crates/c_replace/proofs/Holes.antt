@@ -17,10 +17,14 @@ use Rattle.c_replace.proofs.Splits.{kinds_append}
 
 -- ---- parts that hold the location
 
+-- what is said of the kinds of tokens and a rewrite
+abbrev pub Claim : Type 1
+Claim = List TokenKind → Rewrite → Type 0
+
 -- Some tokens of a part are the location's, P holds of those before them, and locs are the locations in
--- the part. Where others that
--- fit stand in their place, J holds of the kinds of all and of the rewrite.
-pub record Hole (l : Loc) (P : Tokens → Type 0) (J : List TokenKind → Rewrite → Type 0)
+-- the
+-- part. Where others that fit stand in their place, J holds of the kinds of all and of the rewrite.
+pub record Hole (l : Loc) (P : Tokens → Type 0) (J : Claim)
     (locs : List Located) (own : Tokens) : Type 0 where
   pub before : Tokens
   pub mid : Tokens
@@ -36,7 +40,7 @@ pub record Hole (l : Loc) (P : Tokens → Type 0) (J : List TokenKind → Rewrit
       → J (kinds before ++ (ks ++ kinds after)) r
 
 -- the location isn't in the part, and J holds of its own tokens; or it is there
-pub data Edited (l : Loc) (P : Tokens → Type 0) (J : List TokenKind → Rewrite → Type 0)
+pub data Edited (l : Loc) (P : Tokens → Type 0) (J : Claim)
     (locs : List Located) (own : Tokens) : Type 0 where
   kept : find (is_at l) locs ≡ None → ((r : Rewrite) → J (kinds own) r) → Edited l P J locs own
   holed : Hole l P J locs own → Edited l P J locs own
@@ -65,8 +69,8 @@ rise_ends t (u ∷ a) lo hi r = let x = rise_ends u a t.1.to hi r.2 in
     (r.0, omega (arith, r.1, x.0, x.1), x.2)
 
 -- the location lies in the text of the part that holds it
-pub hole_within : {l : Loc} {P : Tokens → Type 0} {J : List TokenKind → Rewrite
-    → Type 0} {locs : List Located} {own : Tokens} (lo hi : ℕ) → Rise lo hi own → Hole l P J locs own
+pub hole_within : {l : Loc} {P : Tokens → Type 0} {J : Claim} {locs : List Located} {own : Tokens}
+    (lo hi : ℕ) → Rise lo hi own → Hole l P J locs own
     → (lo ≤ l.at.from) × (l.at.from < l.at.to) × (l.at.to ≤ hi)
 hole_within {l} lo hi r h =
     let a = rise_split h.before (h.mid ++ h.after) lo hi (subst (Rise lo hi) h.consists r) in
@@ -74,12 +78,11 @@ hole_within {l} lo hi r h =
     let c = h.covers in
     let e = rise_ends c.first c.others a.0 b.0 (subst (Rise a.0 b.0) c.consists b.1) in
     let before = rise_bounds lo a.0 h.before a.1 in
-    let after = rise_bounds b.0 hi h.after b.2 in (
-      omega (arith, before, e.0, c.begins),
-      omega (arith, e.1, c.begins, c.ends),
-      omega
-          (arith, e.2, c.ends, after),
-    )
+    let after = rise_bounds b.0 hi h.after b.2 in
+    let first : lo ≤ l.at.from = omega (arith, before, e.0, c.begins) in
+    let covers : l.at.from < l.at.to = omega (arith, e.1, c.begins, c.ends) in
+    let last : l.at.to ≤ hi = omega (arith, e.2, c.ends, after) in
+    (first, covers, last)
 
 -- ---- one part that holds the location
 
@@ -94,8 +97,8 @@ inner x p k q r =
     ∙ ap (λ s. x ++ s) (sym (append_assoc p (k ++ q) r))
 
 -- what a larger part holds with the tokens x before and z after the part that holds the location
-pub widen : {l : Loc} {P Q : Tokens → Type 0} {J K : List TokenKind → Rewrite
-    → Type 0} {locs ls : List Located} {o own : Tokens} (x z : Tokens) → own ≡ x ++ (o ++ z)
+pub widen : {l : Loc} {P Q : Tokens → Type 0} {J K : Claim} {locs ls : List Located} {o own : Tokens}
+    (x z : Tokens) → own ≡ x ++ (o ++ z)
     → ((q : Tokens) → P q → Q (x ++ q))
     → ((ks : List TokenKind) (r : Rewrite) → J ks r → K (kinds x ++ (ks ++ kinds z)) r)
     → ((y : Located) → find (is_at l) locs ≡ Some y → find (is_at l) ls ≡ Some y) → Hole l P J locs o
@@ -121,8 +124,8 @@ widen {K = K} x z e p f g h = record {
 }
 
 -- one part with tokens before and after it
-pub carry : {l : Loc} {P Q : Tokens → Type 0} {J K : List TokenKind → Rewrite
-    → Type 0} {locs ls : List Located} {o own : Tokens} (x z : Tokens) → own ≡ x ++ (o ++ z)
+pub carry : {l : Loc} {P Q : Tokens → Type 0} {J K : Claim} {locs ls : List Located} {o own : Tokens}
+    (x z : Tokens) → own ≡ x ++ (o ++ z)
     → ((q : Tokens) → P q → Q (x ++ q)) → find (is_at l) ls ≡ find (is_at l) locs
     → ((ks : List TokenKind) (r : Rewrite) → J ks r → K (kinds x ++ (ks ++ kinds z)) r)
     → Edited l P J locs o → Edited l Q K ls own
@@ -132,8 +135,8 @@ carry {l} {K = K} {o = o} {own = own} x z e p i f (Edited.kept n k) =
 carry {l} x z e p i f (Edited.holed h) = Edited.holed (widen x z e p f (λ y q. i ∙ q) h)
 
 -- one part with tokens before it
-pub carry_last : {l : Loc} {P Q : Tokens → Type 0} {J K : List TokenKind → Rewrite
-    → Type 0} {locs ls : List Located} {o own : Tokens} (x : Tokens) → own ≡ x ++ o
+pub carry_last : {l : Loc} {P Q : Tokens → Type 0} {J K : Claim} {locs ls : List Located}
+    {o own : Tokens} (x : Tokens) → own ≡ x ++ o
     → ((q : Tokens) → P q → Q (x ++ q)) → find (is_at l) ls ≡ find (is_at l) locs
     → ((ks : List TokenKind) (r : Rewrite) → J ks r → K (kinds x ++ ks) r) → Edited l P J locs o
     → Edited l Q K ls own
@@ -154,8 +157,8 @@ kinds_five x y z v w = kinds_three x y (z ++ (v ++ w))
     ∙ ap (λ q. kinds x ++ (kinds y ++ q)) (kinds_three z v w)
 
 -- not both hold the location, since one follows the other
-apart : {l : Loc} {P Q : Tokens → Type 0} {J K : List TokenKind → Rewrite
-    → Type 0} {ls ms : List Located} (x a y b z own : Tokens) (lo hi : ℕ)
+apart : {l : Loc} {P Q : Tokens → Type 0} {J K : Claim} {ls ms : List Located} (x a y b z own : Tokens)
+    (lo hi : ℕ)
     → own ≡ x ++ (a ++ (y ++ (b ++ z))) → Rise lo hi own → Hole l P J ls a
     → Hole l Q K ms b → ⊥
 apart x a y b z own lo hi e r h g =
@@ -181,8 +184,8 @@ found_first l xs ys locs z e n = ap (find (is_at l)) e ∙ find-append (is_at l)
     ∙ ap (λ q. option_or q (find (is_at l) ys)) n
 
 -- two parts, a and b, with the tokens x before, y between and z after them
-pub two : {l : Loc} {P1 P2 P : Tokens → Type 0} {J1 J2 J : List TokenKind → Rewrite
-    → Type 0} {locs1 locs2 locs : List Located} (x a y b z own : Tokens)
+pub two : {l : Loc} {P1 P2 P : Tokens → Type 0} {J1 J2 J : Claim} {locs1 locs2 locs : List Located}
+    (x a y b z own : Tokens)
     → own ≡ x ++ (a ++ (y ++ (b ++ z)))
     → ((q : Tokens) → P1 q → P (x ++ q)) → ((q : Tokens) → P2 q → P ((x ++ (a ++ y)) ++ q))
     → ((ks js : List TokenKind) (r : Rewrite) → J1 ks r → J2 js r
@@ -215,8 +218,8 @@ two x a y b z own e g1 g2 f i lo hi r (Edited.holed h) (Edited.holed g) =
     absurd (apart x a y b z own lo hi e r h g)
 
 -- two parts with nothing after them
-pub two_last : {l : Loc} {P1 P2 P : Tokens → Type 0} {J1 J2 J : List TokenKind → Rewrite
-    → Type 0} {locs1 locs2 locs : List Located} (x a y b own : Tokens) → own ≡ x ++ (a ++ (y ++ b))
+pub two_last : {l : Loc} {P1 P2 P : Tokens → Type 0} {J1 J2 J : Claim} {locs1 locs2 locs : List Located}
+    (x a y b own : Tokens) → own ≡ x ++ (a ++ (y ++ b))
     → ((q : Tokens) → P1 q → P (x ++ q)) → ((q : Tokens) → P2 q → P ((x ++ (a ++ y)) ++ q))
     → ((ks js : List TokenKind) (r : Rewrite) → J1 ks r → J2 js r
     → J (kinds x ++ (ks ++ (kinds y ++ js))) r)

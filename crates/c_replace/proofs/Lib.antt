@@ -1,4 +1,5 @@
 pub mod Splits
+pub mod Ends
 pub mod Shapes
 pub mod Owned
 pub mod Forms

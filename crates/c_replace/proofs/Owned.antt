@@ -1,6 +1,6 @@
 -- What is read as an expression has tokens of its own, and all tokens of their kinds are the same
 -- expression.
-use Rattle.std.proofs.Common.{◌≡◌, ℕ, Bool, true, false, List, [], ◌∷◌, ◌++◌, Some, refl, sym, ap, ◌∙◌, subst, append_assoc}
+use Rattle.std.proofs.Common.{◌≡◌, ℕ, Bool, true, false, List, [], ◌∷◌, ◌++◌, map, Some, refl, sym, ap, ◌∙◌, subst, append_assoc}
 use Rattle.c_lex.specs.declared.token.TokenKind.{TokenKind}
 use Rattle.c_lex.specs.declared.token.TokenKind.TheVariants as kind
 use Rattle.c_lex.specs.declared.token.Punct.{Punct}
@@ -17,7 +17,8 @@ use Rattle.c_grammar.specs.declared.part.Part.{Part}
 use Rattle.c_grammar.specs.declared.part.Part.TheVariants.{Expression, Conditional, Binary, Cast, Primary}
 use Rattle.c_grammar.specs.Grammar.{Tokens, over, wrapped, Given, args, Reads, Argument, Arguments}
 use Rattle.c_lex.specs.Lexemes.{kinds, Covers}
-use Rattle.c_replace.specs.Shapes.{Shaped, ShapedArgument, ShapedArguments, bare_given, is_other, is_no_question, is_whole, Own}
+use Rattle.c_replace.specs.Shapes.{Shaped, is_other, is_no_question, is_whole, Own}
+use Rattle.c_replace.specs.Forms.{Formed, OwnPart, bare_given}
 use Rattle.c_replace.proofs.Splits.{kinds_append, covers_one, covers_join, covers_before, settled_append}
 use Rattle.c_replace.proofs.Shapes as shape
 
@@ -37,18 +38,6 @@ whole_wrapped s (tree.bump before up t e) h = (refl, refl)
 whole_wrapped s (tree.comma t u e) h = (refl, refl)
 whole_wrapped s tree.hole h = absurd (cc)
 whole_wrapped s (tree.hole_after t) h = absurd (cc)
-
--- the own tokens of an argument
-record OwnArgument (a b : Tokens) (g : Given) : Type 0 where
-  own : Tokens
-  splits : a ≡ own ++ b
-  shaped : ShapedArgument (kinds own) (bare_given g)
-
--- the own tokens of arguments
-record OwnArguments (a b : Tokens) (gs : List Given) : Type 0 where
-  own : Tokens
-  splits : a ≡ own ++ b
-  shaped : ShapedArguments (kinds own) (bare_args (args gs))
 
 -- `++` and `--` are no `?`
 bump_other : (p : Punct) (up : Bool) → bump_operator p ≡ Some up → is_no_question p ≡ true
@@ -213,7 +202,7 @@ own_choose {a} {b} {c} {d} {s} {o} {t} {u} {v} x y z =
 
 -- a call with arguments
 own_call : {a b : Tokens} {w : List ℕ} {s o e : Span} {gs : List Given}
-    → OwnArguments a ((kind.Punct mark.CloseParen, e) ∷ b) gs
+    → OwnPart Arguments (map bare_given) a ((kind.Punct mark.CloseParen, e) ∷ b) gs
     → Own Primary ((kind.Name w, s) ∷ (kind.Punct mark.OpenParen, o) ∷ a) b
     (tree.call w (args gs) (over s e))
 own_call {a} {b} {w} {s} {o} {e} {gs} x = record {
@@ -221,10 +210,13 @@ own_call {a} {b} {w} {s} {o} {e} {gs} x = record {
       (x.own ++ (kind.Punct mark.CloseParen, e) ∷ []);
   splits = ap (λ q. (kind.Name w, s) ∷ (kind.Punct mark.OpenParen, o) ∷ q)
       (x.splits ∙ sym (append_assoc x.own ((kind.Punct mark.CloseParen, e) ∷ []) b));
-  shaped = subst (λ q. Shaped Primary (kind.Name w ∷ kind.Punct mark.OpenParen ∷ q)
-      (tree.call w (bare_args (args gs)) tree.no_span))
+  shaped = subst (λ q. Shaped Primary (kinds ((kind.Name w, s) ∷ (kind.Punct mark.OpenParen, o) ∷
+      (x.own ++ (kind.Punct mark.CloseParen, e) ∷ []))) (tree.call w q tree.no_span))
+      (sym (shape.bare_each gs))
+      (subst (λ q. Shaped Primary (kind.Name w ∷ kind.Punct mark.OpenParen ∷ q)
+      (tree.call w (args (map bare_given gs)) tree.no_span))
       (sym (kinds_append x.own ((kind.Punct mark.CloseParen, e) ∷ [])))
-      (shape.call w x.shaped);
+      (shape.call w x.formed));
   covers = covers_before (kind.Name w) s (covers_before (kind.Punct mark.OpenParen) o
       (covers_end x.own (kind.Punct mark.CloseParen) e).1);
   whole = refl;
@@ -299,35 +291,32 @@ mutual
       (owned d1) (owned d2) (λ ks ls x y. shape.comma x y)
 
   -- the same of an argument
-  owned_argument : {r : ℕ} {a b : Tokens} {g : Given} → Argument r a b g → OwnArgument a b g
+  owned_argument : {r : ℕ} {a b : Tokens} {g : Given} → Argument r a b g
+      → OwnPart Argument bare_given a b g
   owned_argument (Argument.value d) = let o = owned d in record {
     own = o.own;
     splits = o.splits;
-    shaped = shape.by_value_shaped o.shaped;
+    formed = shape.argument_value o.shaped;
   }
   owned_argument (Argument.format {w = w} {s = s}) = record {
     own = (kind.Str w, s) ∷ [];
     splits = refl;
-    shaped = shape.by_format_shaped w;
+    formed = shape.argument_format w;
   }
   owned_argument (Argument.address {s = s} d) =
       let o = owned d in
       record {
         own = (kind.Punct mark.And, s) ∷ o.own;
         splits = ap (λ q. (kind.Punct mark.And, s) ∷ q) o.splits;
-        shaped = shape.by_address_shaped o.shaped;
+        formed = shape.argument_address o.shaped;
       }
 
   -- the same of arguments
-  owned_arguments : {r : ℕ} {a b : Tokens} {gs : List Given} → Arguments r a b gs → OwnArguments a b gs
-  owned_arguments (Arguments.last {g = g} d) =
+  owned_arguments : {r : ℕ} {a b : Tokens} {gs : List Given} → Arguments r a b gs
+      → OwnPart Arguments (map bare_given) a b gs
+  owned_arguments (Arguments.last d) =
       let o = owned_argument d in
-      record {
-        own = o.own;
-        splits = o.splits;
-        shaped = subst (ShapedArguments (kinds o.own)) (sym (shape.bare_put g []))
-            (shape.last_argument o.shaped);
-      }
+      record { own = o.own; splits = o.splits; formed = shape.arguments_last o.formed }
   owned_arguments (Arguments.more {c = c} {g = g} {gs = gs} {s = s} d e) =
       let o = owned_argument d in
       let p = owned_arguments e in
@@ -335,9 +324,7 @@ mutual
         own = o.own ++ (kind.Punct mark.Comma, s) ∷ p.own;
         splits = o.splits ∙ ap (λ q. o.own ++ (kind.Punct mark.Comma, s) ∷ q) p.splits
             ∙ sym (append_assoc o.own ((kind.Punct mark.Comma, s) ∷ p.own) c);
-        shaped = subst (ShapedArguments (kinds (o.own ++ (kind.Punct mark.Comma, s) ∷ p.own)))
-            (sym (shape.bare_put g gs))
-            (subst (λ q. ShapedArguments q (shape.put_bare (bare_given g) (bare_args (args gs))))
+        formed = subst (λ q. Formed Arguments (map bare_given) q (map bare_given (g ∷ gs)))
             (sym (kinds_append o.own ((kind.Punct mark.Comma, s) ∷ p.own)))
-            (shape.more_arguments o.shaped p.shaped));
+            (shape.arguments_more o.formed p.formed);
       }

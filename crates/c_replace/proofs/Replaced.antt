@@ -1,27 +1,31 @@
 -- At each location of a program, others can stand in the place of its tokens.
-use Rattle.std.proofs.Common.{◌≡◌, ℕ, false, Some, None, List, [], ◌∷◌, ◌++◌, sym, ap, ◌∙◌, subst, append_assoc, option_map, Contains, arith}
+use Rattle.std.proofs.Common.{◌≡◌, ℕ, zero, suc, false, refl, Some, None, List, [], ◌∷◌, ◌++◌, sym, ap, ◌∙◌, subst, append_assoc, option_map, Contains, arith}
 use Rattle.std.proofs.lemmas.List.{append-nil}
 use Rattle.c_lex.specs.declared.token.TokenKind.{TokenKind}
 use Rattle.c_lex.specs.declared.token.TokenKind.TheVariants as kind
 use Rattle.c_lex.specs.declared.token.Keyword.TheVariants as key
 use Rattle.c_lex.specs.declared.token.Punct.TheVariants as mark
 use Rattle.c_lex.specs.Lexemes.{Rise, kinds}
+use Rattle.c_tree.specs.declared.expr.BinOp.TheVariants.{Both, Either}
 use Rattle.c_tree.specs.declared.place.Loc.{Loc}
 use Rattle.c_tree.specs.declared.place.LocKind.{LocKind}
 use Rattle.c_tree.specs.declared.place.LocKind.TheVariants.{Guard, Cond, Right}
 use Rattle.c_tree.specs.declared.place.Span.{Span}
-use Rattle.c_tree.specs.Tree.{Tree, Code, Outer, bare, bare_code, bare_program, no_span}
-use Rattle.c_location.specs.Changes.{replaced, guarded}
-use Rattle.c_location.specs.Locations.{Part, expression, statement, located, locations}
+use Rattle.c_tree.specs.Tree.{Tree, binary, Code, Outer, bare, bare_code, bare_program, no_span}
+use Rattle.c_location.specs.Changes.{replaced, combined, guarded}
+use Rattle.c_location.specs.Locations.{Part, located, locations}
 use Rattle.c_location.specs.Laws.{NothingElsewhere}
+use Rattle.c_location.specs.Locations as part
 use Rattle.c_location.specs.OnePlace.{IsOf, NamesOnePlace}
 use Rattle.c_location.specs.Rewrites.{Rewrite, rewrite}
-use Rattle.c_grammar.specs.declared.part.Part.TheVariants.{Expression, Assignment}
+use Rattle.c_grammar.specs.declared.part.Part.TheVariants.{Expression, Assignment, Binary}
+use Rattle.c_grammar.specs.Operators.{weakest}
 use Rattle.c_grammar.specs.Grammar.{Tokens}
 use Rattle.c_grammar.specs.Programs.{Statement, Derives}
 use Rattle.c_replace.specs.Shapes.{Shaped}
 use Rattle.c_replace.specs.Forms.{Formed, ShapedProgram}
-use Rattle.c_replace.specs.Replacing.{IsPart, Fits, Replaceable, guarded_kinds, ReplaceableBy}
+use Rattle.c_replace.specs.Replacing.{IsPart, Fits, Replaceable, enclosed, joined_kinds, guarded_kinds, ReplaceableBy}
+use Rattle.c_replace.proofs.Shapes as expression
 use Rattle.c_replace.proofs.Statements as shape
 use Rattle.c_replace.proofs.Holes.{Edited, hole_within}
 use Rattle.c_replace.proofs.EditedPrograms.{Inside, ProgramKinds, program}
@@ -109,12 +113,55 @@ guard_formed {test} {old} new c f g =
     subst (λ q. Formed (Statement false) bare_code q (bare_code ((guarded new).code c))) same
     (shape.block (shape.statement_item (shape.if_then f g) shape.none))
 
+-- an expression in parentheses, where an operand of operators of some rank is wanted
+operand_of : {ks : List TokenKind} {t : Tree} (j : ℕ) → Shaped Expression ks t
+    → Shaped (Binary j) (enclosed ks) t
+operand_of zero s = expression.operand (expression.cast
+    (expression.unary (expression.postfix (expression.paren s))))
+operand_of (suc j) s = expression.weaker (operand_of j s)
+
+-- an expression of operators, where any is wanted
+any_of : {ks : List TokenKind} {t : Tree} → Shaped (Binary weakest) ks t → Shaped Expression ks t
+any_of s = expression.expression (expression.assignment (expression.conditional s))
+
+-- the old condition and a new one
+narrowed_shaped : {old ks : List TokenKind} {t u : Tree} → Shaped Expression old t
+    → Shaped Expression ks u
+    → Shaped Expression (joined_kinds mark.AndAnd old ks) (binary Both t u no_span)
+narrowed_shaped s f = any_of (expression.weaker
+    (expression.binary mark.AndAnd Both refl refl (operand_of 9 s) (operand_of 8 f)))
+
+-- the old condition or a new one
+widened_shaped : {old ks : List TokenKind} {t u : Tree} → Shaped Expression old t
+    → Shaped Expression ks u
+    → Shaped Expression (joined_kinds mark.OrOr old ks) (binary Either t u no_span)
+widened_shaped s f = any_of (expression.binary mark.OrOr Either refl refl (operand_of 10 s)
+    (operand_of 9 f))
+
+-- the old condition and a new one fit
+narrowed_fits : (k : LocKind) (at : Span) (part : Part) (old ks : List TokenKind) (new : Tree)
+    → k ≡ Cond → IsOf k at part → IsPart old part → Shaped Expression ks (bare new)
+    → Fits k (joined_kinds mark.AndAnd old ks) (rewrite (combined Both new) part)
+narrowed_fits Cond at (part.expression e) old ks new i o g s = narrowed_shaped g s
+narrowed_fits Cond at (part.statement c) old ks new i o g s = absurd o
+narrowed_fits Guard at part old ks new i o g s = absurd (cc)
+narrowed_fits Right at part old ks new i o g s = absurd (cc)
+
+-- the old condition or a new one fits
+widened_fits : (k : LocKind) (at : Span) (part : Part) (old ks : List TokenKind) (new : Tree) → k ≡ Cond
+    → IsOf k at part → IsPart old part → Shaped Expression ks (bare new)
+    → Fits k (joined_kinds mark.OrOr old ks) (rewrite (combined Either new) part)
+widened_fits Cond at (part.expression e) old ks new i o g s = widened_shaped g s
+widened_fits Cond at (part.statement c) old ks new i o g s = absurd o
+widened_fits Guard at part old ks new i o g s = absurd (cc)
+widened_fits Right at part old ks new i o g s = absurd (cc)
+
 -- a new condition fits
 condition_fits : (k : LocKind) (at : Span) (part : Part) (ks : List TokenKind) (new : Tree) → k ≡ Cond
     → IsOf k at part → Shaped Expression ks (bare new)
     → Fits k ks (rewrite (replaced new) part)
-condition_fits Cond at (expression e) ks new i o s = s
-condition_fits Cond at (statement c) ks new i o s = absurd o
+condition_fits Cond at (part.expression e) ks new i o s = s
+condition_fits Cond at (part.statement c) ks new i o s = absurd o
 condition_fits Guard at part ks new i o s = absurd (cc)
 condition_fits Right at part ks new i o s = absurd (cc)
 
@@ -122,8 +169,8 @@ condition_fits Right at part ks new i o s = absurd (cc)
 side_fits : (k : LocKind) (at : Span) (part : Part) (ks : List TokenKind) (new : Tree) → k ≡ Right
     → IsOf k at part → Shaped Assignment ks (bare new)
     → Fits k ks (rewrite (replaced new) part)
-side_fits Right at (expression e) ks new i o s = s
-side_fits Right at (statement c) ks new i o s = absurd o
+side_fits Right at (part.expression e) ks new i o s = s
+side_fits Right at (part.statement c) ks new i o s = absurd o
 side_fits Guard at part ks new i o s = absurd (cc)
 side_fits Cond at part ks new i o s = absurd (cc)
 
@@ -131,8 +178,8 @@ side_fits Cond at part ks new i o s = absurd (cc)
 guard_fits : (k : LocKind) (at : Span) (part : Part) (test old : List TokenKind) (new : Tree)
     → k ≡ Guard → IsOf k at part → IsPart old part → Shaped Expression test (bare new)
     → Fits k (guarded_kinds test old) (rewrite (guarded new) part)
-guard_fits Guard at (statement c) test old new i o g f = guard_formed new c f g
-guard_fits Guard at (expression e) test old new i o g f = absurd o
+guard_fits Guard at (part.statement c) test old new i o g f = guard_formed new c f g
+guard_fits Guard at (part.expression e) test old new i o g f = absurd o
 guard_fits Right at part test old new i o g f = absurd (cc)
 guard_fits Cond at part test old new i o g f = absurd (cc)
 
@@ -142,6 +189,10 @@ pub replaced_by : (l : Loc) (p : List Outer) (a : Tokens) (x : Replaceable l p a
 replaced_by l p a x = record {
   condition = λ k ks new s. x.replaced ks (replaced new)
       (condition_fits l.kind l.at x.part ks new k x.is_of s);
+  narrowed = λ k ks new s. x.replaced (joined_kinds mark.AndAnd (kinds x.own) ks) (combined Both new)
+      (narrowed_fits l.kind l.at x.part (kinds x.own) ks new k x.is_of x.is_part s);
+  widened = λ k ks new s. x.replaced (joined_kinds mark.OrOr (kinds x.own) ks) (combined Either new)
+      (widened_fits l.kind l.at x.part (kinds x.own) ks new k x.is_of x.is_part s);
   right_side = λ k ks new s. x.replaced ks (replaced new)
       (side_fits l.kind l.at x.part ks new k x.is_of s);
   guard = λ k test new s. x.replaced (guarded_kinds test (kinds x.own)) (guarded new)

@@ -16,36 +16,6 @@ pub kinds_append : (a b : Tokens) → kinds (a ++ b) ≡ kinds a ++ kinds b
 kinds_append [] b = refl
 kinds_append (t ∷ a) b = ap (λ q. t.0 ∷ q) (kinds_append a b)
 
--- a list of two parts
-pub record Cut (own : Tokens) (ks ls : List TokenKind) : Type 0 where
-  pub first : Tokens
-  pub second : Tokens
-  pub consists : own ≡ first ++ second
-  pub first_kinds : kinds first ≡ ks
-  pub second_kinds : kinds second ≡ ls
-
--- tokens of these kinds are those of the first kinds and those of the second
-pub cut : (own : Tokens) (ks ls : List TokenKind) → kinds own ≡ ks ++ ls → Cut own ks ls
-cut own [] ls e = record {
-  first = [];
-  second = own;
-  consists = refl;
-  first_kinds = refl;
-  second_kinds = e;
-}
-cut [] (k ∷ ks) ls e = absurd (cc)
-cut (t ∷ own) (k ∷ ks) ls e =
-    let same : t.0 ≡ k = cc in
-    let tail : kinds own ≡ ks ++ ls = cc in
-    let c = cut own ks ls tail in
-    record {
-      first = t ∷ c.first;
-      second = c.second;
-      consists = ap (λ q. t ∷ q) c.consists;
-      first_kinds = ap (λ q. q ∷ kinds c.first) same ∙ ap (λ q. k ∷ q) c.first_kinds;
-      second_kinds = c.second_kinds;
-    }
-
 -- a list of a token and others
 pub record Headed (own : Tokens) (k : TokenKind) (ks : List TokenKind) : Type 0 where
   pub span : Span

@@ -20,7 +20,8 @@ use Rattle.c_lex.specs.Lexemes.{kinds}
 use Rattle.c_replace.specs.Shapes.{Shaped}
 use Rattle.c_replace.specs.Forms.{Formed, ShapedProgram}
 use Rattle.c_replace.proofs.Splits.{at_suc, headed, none_left}
-use Rattle.c_replace.proofs.Forms.{got_end, got_then, VarsIn, bare_vars}
+use Rattle.c_replace.proofs.Ends.{got_end, got_then}
+use Rattle.c_replace.proofs.Forms.{VarsIn, bare_vars}
 
 -- two openers more
 two_suc : (P : ℕ → Type 0) (n r : ℕ) → suc (suc n) ≤ r → ((q : ℕ) → n ≤ q → P (suc (suc q))) → P r
@@ -57,7 +58,7 @@ act {ks} x = record {
         need = g.need;
         found = tree.act g.found (over (span_of g.found) g.span);
         is_bare = ap (λ q. tree.act q no_span) g.is_bare;
-        reads = λ r l. Statement.act (g.reads r l).1;
+        reads = λ r l. Statement.act (g.reads r l).2;
       };
 }
 
@@ -126,7 +127,7 @@ got_tested {o} {ks} {js} {t} {y} k ls a x s e =
       need = c.need + d.need;
       test = c.found;
       test_bare = c.is_bare;
-      reads_test = λ r l. c.reads r (omega arith);
+      reads_test = λ r l. let d = c.reads r (omega arith) in (d.0, d.2);
       rest = d.rest;
       rest_kinds = d.rest_kinds;
       body = d.found;
@@ -212,7 +213,7 @@ if_else {o} {ks} {js} {is} {t} {y} {z} x s v = record {
             (sym (g.consists ∙ ap (λ q. (kind.Word key.If, g.span) ∷ q) h.consists))
             (two_suc (λ i. Statement o i ((kind.Word key.If, g.span) ∷
             (kind.Punct mark.OpenParen, h.span) ∷ h.tail) f.rest found) need r l
-            (λ q low. Statement.if_else (c.reads q (omega arith)).1 (d.reads (suc q) (omega arith))
+            (λ q low. Statement.if_else (c.reads q (omega arith)).2 (d.reads (suc q) (omega arith))
             (f.reads (suc q) (omega arith))));
       };
 }
@@ -252,7 +253,7 @@ do_while {o} {ks} {js} {t} {y} s x = record {
             h.consists (c.reads (suc q) (omega arith)))
             (let w = d.reads q (omega arith) in subst
             (λ p. Reads Expression q h.tail w.0 ((kind.Punct mark.CloseParen, d.span) ∷ p) d.found)
-            f.consists w.1)));
+            f.consists w.2)));
       };
 }
 

@@ -4,8 +4,8 @@
 use Rattle.std.specs.Prelude.{◌≡◌, ℕ, ◌≤◌, List, ◌++◌}
 use Rattle.c_lex.specs.declared.token.TokenKind.{TokenKind}
 use Rattle.c_lex.specs.Lexemes.{kinds}
-use Rattle.c_tree.specs.Tree.{Outer, bare_program}
-use Rattle.c_grammar.specs.Grammar.{Tokens}
+use Rattle.c_tree.specs.Tree.{Outer, bare, bare_program, no_span}
+use Rattle.c_grammar.specs.Grammar.{Tokens, Given, by_value, by_format, by_address}
 use Rattle.c_grammar.specs.Programs.{Derives}
 
 -- Where there is room, a part is read from the tokens a on, and tokens of the kinds ls are left. It is
@@ -31,6 +31,12 @@ pub record OwnPart {X : Type 0} (R : ℕ → Tokens → Tokens → X → Type 0)
   pub own : Tokens
   pub splits : a ≡ own ++ b
   pub formed : Formed R bare (kinds own) (bare x)
+
+-- an argument of a call without spans, slots and the spelling of constants
+abbrev pub bare_given : Given → Given
+bare_given (by_value t) = by_value (bare t)
+bare_given (by_format w s) = by_format w no_span
+bare_given (by_address t) = by_address (bare t)
 
 -- Where there is room, these tokens are a program. It is p but for spans, slots and the spelling of
 -- constants.

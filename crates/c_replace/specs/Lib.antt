@@ -1,3 +1,3 @@
-pub mod Shapes
 pub mod Forms
+pub mod Shapes
 pub mod Replacing

@@ -4,13 +4,15 @@ use Rattle.std.specs.List.{Contains}
 use Rattle.c_lex.specs.declared.token.TokenKind.{TokenKind}
 use Rattle.c_lex.specs.declared.token.TokenKind.TheVariants as kind
 use Rattle.c_lex.specs.declared.token.Keyword.TheVariants as key
+use Rattle.c_lex.specs.declared.token.Punct.{Punct as Mark}
 use Rattle.c_lex.specs.declared.token.Punct.TheVariants as mark
 use Rattle.c_lex.specs.Lexemes.{Rise, kinds, Covers}
+use Rattle.c_tree.specs.declared.expr.BinOp.TheVariants.{Both, Either}
 use Rattle.c_tree.specs.declared.place.Loc.{Loc}
 use Rattle.c_tree.specs.declared.place.LocKind.{LocKind}
 use Rattle.c_tree.specs.declared.place.LocKind.TheVariants.{Guard, Cond, Right}
 use Rattle.c_tree.specs.Tree.{Tree, Outer, bare, bare_code, bare_program}
-use Rattle.c_location.specs.Changes.{replaced, guarded}
+use Rattle.c_location.specs.Changes.{replaced, combined, guarded}
 use Rattle.c_location.specs.Locations.{Part, expression, statement, locations, part_at}
 use Rattle.c_location.specs.OnePlace.{IsOf}
 use Rattle.c_location.specs.Rewrites.{Rewrite, rewrite, rewritten}
@@ -32,9 +34,10 @@ Fits Right ks (expression e) = Shaped Assignment ks (bare e)
 Fits _ ks part = IsPart ks part
 
 -- The tokens of a location in those of a program. They cover its text, and are the part that stands
--- there. Where others stand in
--- their place that are what a rewrite makes of the part, the tokens are the program rewritten at the
--- location.
+-- there.
+-- Where others stand in their place that are what a rewrite makes of the part, the tokens are the
+-- program
+-- rewritten at the location.
 pub record Replaceable (l : Loc) (p : List Outer) (a : Tokens) : Type 0 where
   pub before : Tokens
   pub own : Tokens
@@ -62,26 +65,42 @@ ProgramsByKinds = (r end : ℕ) (a : Tokens) (p : List Outer) → Derives r a p 
 -- At each location of a program, others can stand in the place of its tokens.
 abbrev pub EachReplaceable : Type 0
 EachReplaceable = (r end : ℕ) (a : Tokens) (p : List Outer) (l : Loc) → Derives r a p → Rise 0 end a
-    → Contains (locations p) l
-    → Replaceable l p a
+    → Contains (locations p) l → Replaceable l p a
+
+-- `(` .. `)`
+abbrev pub enclosed : List TokenKind → List TokenKind
+enclosed ks = kind.Punct mark.OpenParen ∷ (ks ++ kind.Punct mark.CloseParen ∷ [])
+
+-- `(` old `)`, an operator and `(` new `)`
+abbrev pub joined_kinds : Mark → List TokenKind → List TokenKind → List TokenKind
+joined_kinds operator old new = enclosed old ++ kind.Punct operator ∷ enclosed new
 
 -- `{ if (` test `) ` old ` }`
 abbrev pub guarded_kinds : List TokenKind → List TokenKind → List TokenKind
 guarded_kinds test old = kind.Punct mark.OpenBrace ∷ kind.Word key.If ∷ kind.Punct mark.OpenParen
     ∷ (test ++ kind.Punct mark.CloseParen ∷ (old ++ kind.Punct mark.CloseBrace ∷ []))
 
--- The same by the changes that a patch makes: the new kinds of tokens, and the program that they are
--- with those before and after.
+-- Where tokens of the kinds ks stand between those before a location and those after it, they are the
+-- program with that change at the location.
+abbrev pub Becomes : Loc → List Outer → List TokenKind → List TokenKind → List TokenKind → Rewrite
+    → Type 0
+Becomes l p before after ks change = ShapedProgram (before ++ (ks ++ after))
+    (bare_program (rewritten l change p))
+
+-- what each change of a patch needs in the place of a location whose own tokens are of the kinds `own`
 pub record ReplaceableBy (l : Loc) (p : List Outer) (before own after : List TokenKind) : Type 0 where
   pub condition : l.kind ≡ Cond → (ks : List TokenKind) (new : Tree) → Shaped Expression ks (bare new)
-      → ShapedProgram (before ++ (ks ++ after)) (bare_program (rewritten l (replaced new) p))
+      → Becomes l p before after ks (replaced new)
+  pub narrowed : l.kind ≡ Cond → (ks : List TokenKind) (new : Tree) → Shaped Expression ks (bare new)
+      → Becomes l p before after (joined_kinds mark.AndAnd own ks) (combined Both new)
+  pub widened : l.kind ≡ Cond → (ks : List TokenKind) (new : Tree) → Shaped Expression ks (bare new)
+      → Becomes l p before after (joined_kinds mark.OrOr own ks) (combined Either new)
   pub right_side : l.kind ≡ Right → (ks : List TokenKind) (new : Tree) → Shaped Assignment ks (bare new)
-      → ShapedProgram (before ++ (ks ++ after)) (bare_program (rewritten l (replaced new) p))
+      → Becomes l p before after ks (replaced new)
   pub guard : l.kind ≡ Guard → (test : List TokenKind) (new : Tree) → Shaped Expression test (bare new)
-      → ShapedProgram (before ++ (guarded_kinds test own ++ after))
-      (bare_program (rewritten l (guarded new) p))
+      → Becomes l p before after (guarded_kinds test own) (guarded new)
 
--- What can be replaced is replaced by the changes that a patch makes.
+-- What can be replaced can be replaced by each change that a patch makes.
 abbrev pub ChangesReplace : Type 0
-ChangesReplace = (l : Loc) (p : List Outer) (a : Tokens) → (x : Replaceable l p a)
+ChangesReplace = (l : Loc) (p : List Outer) (a : Tokens) (x : Replaceable l p a)
     → ReplaceableBy l p (kinds x.before) (kinds x.own) (kinds x.after)

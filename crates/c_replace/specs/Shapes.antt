@@ -8,51 +8,26 @@ use Rattle.c_lex.specs.declared.token.TokenKind.TheVariants.{Punct}
 use Rattle.c_lex.specs.Lexemes.{kinds, Covers}
 use Rattle.c_tree.specs.Parts.{span_of}
 use Rattle.c_tree.specs.Tree as tree
-use Rattle.c_tree.specs.Tree.{Tree, Args, bare, bare_args}
+use Rattle.c_tree.specs.Tree.{Tree, bare}
 use Rattle.c_grammar.specs.declared.part.Part.{Part}
-use Rattle.c_grammar.specs.Grammar.{Tokens, Given, by_value, by_format, by_address, args, Reads, Argument, Arguments}
+use Rattle.c_grammar.specs.Grammar.{Tokens, Reads}
 
--- Where there is room, these tokens are an expression of the kind N, whatever follows them. It is t but
--- for spans, slots and the
--- spelling of constants. No more room is taken than is needed.
-pub record Spells (N : Part) (own : Tokens) (t : Tree) : Type 0 where
+-- Where there is room, an expression of the kind N is read from the tokens a on, and tokens of the
+-- kinds
+-- ls are left. It is t but for spans, slots and the spelling of constants. No more room is taken than
+-- is
+-- needed.
+pub record GotTree (N : Part) (ls : List TokenKind) (a : Tokens) (t : Tree) : Type 0 where
+  pub rest : Tokens
+  pub rest_kinds : kinds rest ≡ ls
   pub need : ℕ
   pub found : Tree
   pub is_bare : bare found ≡ t
-  pub reads : (r : ℕ) → need ≤ r → (z : Tokens) → (m : ℕ) × (r ≤ m + need)
-      × Reads N r (own ++ z) m z found
+  pub reads : (r : ℕ) → need ≤ r → (m : ℕ) × (r ≤ m + need) × Reads N r a m rest found
 
--- all tokens of these kinds are the expression t of the kind N
+-- all tokens of these kinds are the expression t of the kind N, whatever follows them
 pub record Shaped (N : Part) (ks : List TokenKind) (t : Tree) : Type 0 where
-  pub each : (own : Tokens) → kinds own ≡ ks → Spells N own t
-
--- an argument without spans, slots and the spelling of constants
-abbrev pub bare_given : Given → Given
-bare_given (by_value t) = by_value (bare t)
-bare_given (by_format w s) = by_format w tree.no_span
-bare_given (by_address t) = by_address (bare t)
-
--- where there is room, these tokens are the argument g of a call, whatever follows them
-pub record SpellsArgument (own : Tokens) (g : Given) : Type 0 where
-  pub need : ℕ
-  pub found : Given
-  pub is_bare : bare_given found ≡ g
-  pub reads : (r : ℕ) → need ≤ r → (z : Tokens) → Argument r (own ++ z) z found
-
--- all tokens of these kinds are the argument g
-pub record ShapedArgument (ks : List TokenKind) (g : Given) : Type 0 where
-  pub each : (own : Tokens) → kinds own ≡ ks → SpellsArgument own g
-
--- where there is room, these tokens are the arguments x of a call, whatever follows them
-pub record SpellsArguments (own : Tokens) (x : Args) : Type 0 where
-  pub need : ℕ
-  pub found : List Given
-  pub is_bare : bare_args (args found) ≡ x
-  pub reads : (r : ℕ) → need ≤ r → (z : Tokens) → Arguments r (own ++ z) z found
-
--- all tokens of these kinds are the arguments x
-pub record ShapedArguments (ks : List TokenKind) (x : Args) : Type 0 where
-  pub each : (own : Tokens) → kinds own ≡ ks → SpellsArguments own x
+  pub each : (ls : List TokenKind) (a : Tokens) → kinds a ≡ ks ++ ls → GotTree N ls a t
 
 -- the punctuator is no `?`
 abbrev pub is_no_question : Mark → Bool

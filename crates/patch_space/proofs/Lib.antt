@@ -1,2 +1,2 @@
-pub mod PutLemmas
-pub mod SpaceLemmas
+mod ChangeLemmas
+mod SpaceLemmas

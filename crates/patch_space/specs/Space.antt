@@ -1,61 +1,91 @@
 -- The patches of a program by rank, and what each of them makes of it.
-use Rattle.std.specs.Prelude.{ℕ, ◌+◌, List, [], ◌∷◌, ◌++◌, map, take, slice_get, Option, Some, None}
-use Rattle.c_tree.specs.declared.place.Span.{Span}
+use Rattle.std.specs.Prelude.{ℕ, ◌+◌, nat_eq, if◌then◌else◌, List, [], ◌∷◌, ◌++◌, map, take, slice_get, Option, Some, None, option_map}
+use Rattle.std.specs.List.{flat_map}
+use Rattle.c_tree.specs.declared.expr.BinOp.TheVariants.{Both, Either}
 use Rattle.c_tree.specs.declared.place.Loc.{Loc}
 use Rattle.c_tree.specs.declared.place.LocKind.{LocKind}
 use Rattle.c_tree.specs.declared.place.LocKind.TheVariants.{Cond}
 use Rattle.c_tree.specs.Tree.{Tree, Outer}
-use Rattle.c_tree.specs.Locations.{locations}
-use Rattle.c_tree.specs.Put.{put_cond}
+use Rattle.c_location.specs.Changes.{replaced as with_new, combined, guarded as with_test}
+use Rattle.c_location.specs.Locations.{Part, expression, statement, locations, part_at}
+use Rattle.c_location.specs.Rewrites.{Rewrite, rewritten}
 use Rattle.schemas.specs.declared.edit.Edit.{Edit}
-use Rattle.schemas.specs.Conditions.{cond_at}
 use Rattle.schemas.specs.Edits.{edits_of, edited}
 use Rattle.patch_space.specs.declared.patch.Patch.{Patch}
 
--- the edits at a location of a kind: those of the condition that is found there, and else none
-abbrev pub edits_at_kind : LocKind → Option Tree → List Edit
-edits_at_kind Cond (Some e) = edits_of e
-edits_at_kind kind found = []
+-- the costs that patches have, in order
+abbrev pub costs : List ℕ
+costs = 1 ∷ []
 
--- the edits at a location
-abbrev pub edits_at : List Outer → Loc → List Edit
-edits_at program l = edits_at_kind l.kind (cond_at l.at program)
+-- the edits of a cost at a part that stands at a location of a kind; only conditions have edits, and these cost 1
+abbrev pub edits_at : ℕ → LocKind → Part → List Edit
+edits_at cost Cond (expression e) = if nat_eq cost 1 then edits_of e else []
+edits_at cost kind part = []
 
--- the patch of cost 1 that makes an edit at a location, by the location's number
-abbrev pub patch_of : ℕ → Edit → Patch
-patch_of n edit = record { cost = 1; loc = n; edit = edit }
+-- the same of what stands there, if anything does
+abbrev pub edits_there : ℕ → LocKind → Option Part → List Edit
+edits_there cost kind None = []
+edits_there cost kind (Some part) = edits_at cost kind part
 
--- the patches at these locations, of which the first has that number: by location, then in the order of the edits
-abbrev pub patches_from : ℕ → List Loc → List Outer → List Patch
-patches_from n [] program = []
-patches_from n (l ∷ ls) program = map (patch_of n) (edits_at program l) ++ patches_from (n + 1) ls program
+-- the patch that makes an edit at a location, by the location's number
+abbrev pub patch_of : ℕ → ℕ → Edit → Patch
+patch_of cost n edit = record { cost = cost; loc = n; edit = edit }
 
--- all patches of a program, by rank
+-- the patches of a cost at these locations, of which the first has that number: by location, then in the order of the edits
+abbrev pub patches_from : List Outer → ℕ → ℕ → List Loc → List Patch
+patches_from program cost n [] = []
+patches_from program cost n (l ∷ ls) =
+    map (patch_of cost n) (edits_there cost l.kind (part_at l program)) ++ patches_from program cost (n + 1) ls
+
+-- all patches of a program, by rank: those that cost less first
 abbrev pub patches : List Outer → List Patch
-patches program = patches_from 0 (locations program) program
+patches program = flat_map (λ cost. patches_from program cost 0 (locations program)) costs
 
 -- the first patches, as many as are asked for
 abbrev pub space : ℕ → List Outer → List Patch
 space max program = take max (patches program)
 
--- the text and the new condition of an edit at a location of a kind, if a condition is found there
-abbrev pub changed_at_kind : LocKind → Span → Option Tree → Edit → Option (Span × Tree)
-changed_at_kind Cond at (Some e) edit = Some (at, edited e edit)
-changed_at_kind kind at found edit = None
+-- what becomes of the part at a location, over trees
+pub data Change : Type 0 where
+  -- this stands in its place
+  replaced : Tree → Change
+  -- it and this, `old && bound`
+  narrowed : Tree → Change
+  -- it or this, `old || bound`
+  widened : Tree → Change
+  -- `{ if (test) statement }`
+  guarded : Tree → Change
 
--- the text and the new condition of an edit at a location, if there is one and it is a condition
-abbrev pub changed_at : List Outer → Option Loc → Edit → Option (Span × Tree)
-changed_at program None edit = None
-changed_at program (Some l) edit = changed_at_kind l.kind l.at (cond_at l.at program) edit
+-- what a change makes of the part
+abbrev pub rewrite_of : Change → Rewrite
+rewrite_of (replaced new) = with_new new
+rewrite_of (narrowed bound) = combined Both bound
+rewrite_of (widened bound) = combined Either bound
+rewrite_of (guarded test) = with_test test
 
--- the text that a patch replaces, and the condition that it puts there
-abbrev pub changed : List Outer → List Loc → Patch → Option (Span × Tree)
-changed program ls p = changed_at program (slice_get ls p.loc) p.edit
+-- the change that an edit makes of a part; an edit of an expression makes none of a statement
+abbrev pub change_of : Edit → Part → Option Change
+change_of edit (expression e) = Some (replaced (edited e edit))
+change_of edit (statement c) = None
 
--- the program with a new condition in the place of a text, if there is one
-abbrev pub with_change : List Outer → Option (Span × Tree) → List Outer
+-- the same of what stands there, if anything does
+abbrev pub change_there : Edit → Option Part → Option Change
+change_there edit None = None
+change_there edit (Some part) = change_of edit part
+
+-- the location and the change of an edit that is made there, if it can be made
+abbrev pub changed_at : List Outer → Edit → Option Loc → Option (Loc × Change)
+changed_at program edit None = None
+changed_at program edit (Some l) = option_map (λ c. (l, c)) (change_there edit (part_at l program))
+
+-- the location at which a patch changes a program with these locations, and the change that it makes there
+abbrev pub changed : List Outer → List Loc → Patch → Option (Loc × Change)
+changed program ls p = changed_at program p.edit (slice_get ls p.loc)
+
+-- the program with a change at a location, if there is one
+abbrev pub with_change : List Outer → Option (Loc × Change) → List Outer
 with_change program None = program
-with_change program (Some c) = put_cond c.0 c.1 program
+with_change program (Some c) = rewritten c.0 (rewrite_of c.1) program
 
 -- the program that a patch makes of a program
 abbrev pub applied : List Outer → List Loc → Patch → List Outer

@@ -1,3 +1,0 @@
-pub mod ConditionLemmas
-pub mod TallyLemmas
-pub mod WalkLemmas

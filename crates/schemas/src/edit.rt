@@ -9,7 +9,7 @@ use c_tree::{BinOp, Expr, ExprNode, NoMemory, copy_expr, is_pure};
 use std::alloc::Global;
 
 /// A change of one expression.
-#[derive(Clone, Copy, Debug, PartialEq, Eq)]
+#[derive(Debug, Drop, PartialEq, Eq)]
 pub enum Edit {
     /// The operator at the top becomes this one.
     Op(BinOp),
@@ -73,13 +73,10 @@ fn with_operator(alloc: Global, e: &Expr, op: BinOp) -> Result<Expr, NoMemory>
 }
 
 /// A copy of the expression with the edit made. It covers the same text.
-pub fn edited(alloc: Global, e: &Expr, edit: Edit) -> Result<Expr, NoMemory>
-    ensures { IfOk result (λ copy. tree copy ≡ after (tree e.now) edit) }
+pub fn edited(alloc: Global, e: &Expr, edit: &Edit) -> Result<Expr, NoMemory>
+    ensures { IfOk result (λ copy. tree copy ≡ after (tree e.now) edit.now) }
 {
     match edit {
-        Edit::Op(op) => with_operator(alloc, e, op),
+        Edit::Op(op) => with_operator(alloc, e, *op),
     }
 }
-
-#[cfg(test)]
-mod tests;

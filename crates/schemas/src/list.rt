@@ -1,13 +1,11 @@
-//! The list of a program's locations.
+//! The list of a checked program's locations.
 
 ghost use Rattle.std.specs.Prelude.{◌≡◌, ◌≤◌, length, IfOk, IfErr};
-ghost use Rattle.c_tree.specs.Locations.{locations as locations_of};
+ghost use Rattle.c_location.specs.Faults.{Causes};
+ghost use Rattle.c_location.specs.Locations.{locations as locations_of};
 ghost use Rattle.c_types.specs.Shown.{tree_of};
-ghost use Rattle.schemas.specs.Faults.{Causes};
 
-use crate::fault::LocFault;
-use crate::tally::{LIMIT, Tally};
-use crate::walk::add_program;
+use c_location::LocFault;
 use c_tree::Loc;
 use c_types::Typed;
 use std::alloc::Global;
@@ -18,11 +16,5 @@ pub fn locations(alloc: Global, program: &Typed) -> Result<Vec<Loc>, LocFault>
     ensures few { IfOk result (λ list. length list.items ≤ 4096) }
     ensures refused { IfErr result (λ fault. Causes fault (locations_of (tree_of program.now))) }
 {
-    let mut found = Tally::new(alloc);
-    add_program(&mut found, program.program())?;
-    let count = found.count();
-    if count as usize > LIMIT {
-        return Err(LocFault::TooMany(count));
-    }
-    Ok(found.into_kept())
+    c_location::locations(alloc, program.program())
 }

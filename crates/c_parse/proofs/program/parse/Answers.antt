@@ -1,6 +1,7 @@
 -- What the descent comes to is what the grammar says of the tokens.
 use Rattle.std.proofs.lemmas.Result.{IfErr-weaker}
 use Rattle.c_grammar.specs.Judge.{good, unexpected_at, too_deep_at}
+use Rattle.c_grammar.proofs.TooDeep.{passes_deep}
 use Rattle.c_parse.specs.Faults.{Causes, IsPlaced}
 use Rattle.c_parse.proofs.Answered.{derived, refused, answered}
 use Rattle.c_parse.proofs.Placed.{causes_placed}
@@ -8,12 +9,12 @@ use Rattle.c_parse.proofs.program.parse.Goals as goal
 
 pub returns : goal.returns
 returns c = record {
-  derived = derived c.args.end c.args.tokens.now c.judged.result c.judged.ensures;
-  refused = refused c.args.end c.args.tokens.now c.judged.result c.judged.ensures;
-  accepts = λ p j. answered c.args.end c.args.tokens.now (good p) c.judged.result c.judged.ensures j;
-  expects = λ b j. answered c.args.end c.args.tokens.now (unexpected_at b) c.judged.result c.judged.ensures j;
-  nests = λ b j. answered c.args.end c.args.tokens.now (too_deep_at b) c.judged.result c.judged.ensures j;
+  derived = derived c.args.end c.args.tokens.now c.parse_program.result c.parse_program.ensures;
+  refused = refused c.args.end c.args.tokens.now c.parse_program.result c.parse_program.ensures;
+  accepts = λ p j. answered c.args.end c.args.tokens.now (good p) c.parse_program.result c.parse_program.ensures j;
+  expects = λ b j. answered c.args.end c.args.tokens.now (unexpected_at b) c.parse_program.result c.parse_program.ensures j;
+  nests = λ b p. answered c.args.end c.args.tokens.now (too_deep_at b) c.parse_program.result c.parse_program.ensures (passes_deep 64 c.args.tokens.now b p);
   placed = λ rise.
-      IfErr-weaker c.judged.result (Causes c.args.end c.args.tokens.now) (IsPlaced c.args.end) (λ e h. causes_placed c.args.end c.args.tokens.now e rise h)
-      (refused c.args.end c.args.tokens.now c.judged.result c.judged.ensures);
+      IfErr-weaker c.parse_program.result (Causes c.args.end c.args.tokens.now) (IsPlaced c.args.end) (λ e h. causes_placed c.args.end c.args.tokens.now e rise h)
+      (refused c.args.end c.args.tokens.now c.parse_program.result c.parse_program.ensures);
 }

@@ -1,0 +1,4 @@
+pub mod Conversions
+pub mod TwosComplement
+pub mod Words
+pub mod Remainders

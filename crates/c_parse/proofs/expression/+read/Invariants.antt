@@ -1,4 +1,0 @@
-use Rattle.c_parse.proofs.expression.+read.Given as goal
-
-abbrev pub decreases-read : goal.decreases-read
-decreases-read l = l.depth

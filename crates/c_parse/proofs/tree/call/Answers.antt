@@ -1,5 +1,0 @@
-use Rattle.c_parse.proofs.Shapes.{node-Call}
-use Rattle.c_parse.proofs.tree.call.Goals as goal
-
-pub returns : goal.returns
-returns c = node-Call c.args.word c.args.args c.args.span

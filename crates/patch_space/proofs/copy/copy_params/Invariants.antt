@@ -1,6 +1,0 @@
-use Rattle.std.proofs.Common.{◌≡◌, ◌++◌, drop}
-use Rattle.patch_space.proofs.copy.copy_params.Given as goal
-
--- what is copied and what is left stand for the whole list
-abbrev pub invariant-loop-param : goal.invariant-loop-param
-invariant-loop-param l = l.copies.items ++ drop l.param-index l.params ≡ l.params

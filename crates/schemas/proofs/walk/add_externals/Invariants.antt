@@ -1,9 +1,0 @@
-use Rattle.std.proofs.Common.{◌≡◌, map, drop}
-use Rattle.c_tree.specs.Views.{outer}
-use Rattle.c_tree.specs.Locations.{locations}
-use Rattle.schemas.specs.Tally.{with_all}
-use Rattle.schemas.proofs.walk.add_externals.Given as goal
-
--- what is found with the part that is left
-abbrev pub invariant-loop-external : goal.invariant-loop-external
-invariant-loop-external l = with_all l.initial.found (locations (map outer l.externals)) ≡ with_all l.found (locations (map outer (drop l.external-index l.externals)))
