@@ -40,33 +40,38 @@ seam_two : (b c d : ℕ) (s : Bytes) → is_seam d ≡ true
     → is_refused (b ∷ c ∷ d ∷ s) ≡ false
 seam_two b c d s h t e = grind (arith, nat_tests)
 
--- ---- texts
+-- ---- clean texts
 
--- without the first byte
+-- a clean text is clean without its first byte
 pub clean_tail : (b : ℕ) (z : Bytes) → IsNowhere is_refused (b ∷ z) → IsNowhere is_refused z
 clean_tail b z h m l = h (suc m) (omega arith)
 
--- without a prefix
+-- so it is without a prefix
 pub clean_suffix : (x s : Bytes) → IsNowhere is_refused (x ++ s) → IsNowhere is_refused s
 clean_suffix [] s h = h
 clean_suffix (b ∷ x) s h = clean_suffix x s (clean_tail b (x ++ s) h)
 
--- with a byte before it
+-- and without its first n bytes
+pub clean_drop : (n : ℕ) (z : Bytes) → IsNowhere is_refused z → IsNowhere is_refused (drop n z)
+clean_drop n z h =
+    clean_suffix (take n z) (drop n z) (subst (IsNowhere is_refused) (sym (take-append-drop n z)) h)
+
+-- a clean text is clean with a byte before it that begins nothing that is refused
 pub more : (b : ℕ) (z : Bytes) → is_refused (b ∷ z) ≡ false → IsNowhere is_refused z
     → IsNowhere is_refused (b ∷ z)
 more b z e h zero l = e
 more b z e h (suc m) l = h m (omega arith)
 
--- at the first byte
+-- the first byte of a clean text begins nothing that is refused
 first : (b : ℕ) (z : Bytes) → IsNowhere is_refused (b ∷ z) → is_refused (b ∷ z) ≡ false
 first b z h = h 0 (omega arith)
 
--- the empty text
+-- the empty text is clean
 pub clean_none : IsNowhere is_refused []
 clean_none zero l = refl
 clean_none (suc m) l = absurd (omega arith)
 
--- without what follows
+-- a clean text is clean without what follows a prefix
 pub clean_prefix : (x s : Bytes) → IsNowhere is_refused (x ++ s) → IsNowhere is_refused x
 clean_prefix [] s h = clean_none
 clean_prefix (b ∷ []) s h = more b [] (refused_one b) clean_none
@@ -77,7 +82,7 @@ clean_prefix (b ∷ c ∷ d ∷ x) s h =
     more b (c ∷ d ∷ x) (first b (c ∷ d ∷ (x ++ s)) h)
     (clean_prefix (c ∷ d ∷ x) s (clean_tail b (c ∷ d ∷ (x ++ s)) h))
 
--- after a calm end
+-- a clean text after one that ends calmly
 pub clean_calm : (x s : Bytes) → IsNowhere is_refused x → is_calm x ≡ true → IsNowhere is_refused s
     → IsNowhere is_refused (x ++ s)
 clean_calm [] s h i g = g
@@ -89,7 +94,7 @@ clean_calm (b ∷ c ∷ d ∷ x) s h i g =
     more b (c ∷ d ∷ (x ++ s)) (first b (c ∷ d ∷ x) h)
     (clean_calm (c ∷ d ∷ x) s (clean_tail b (c ∷ d ∷ x) h) i g)
 
--- before a seam that ends no trigraph
+-- a clean text before one that begins with a seam, which ends no trigraph or doesn't follow `??`
 pub clean_seam : (x s : Bytes) → IsNowhere is_refused x → begins_seam s ≡ true
     → (not (ends_query x) || begins_plain s) ≡ true → IsNowhere is_refused s
     → IsNowhere is_refused (x ++ s)
@@ -105,7 +110,7 @@ clean_seam (b ∷ c ∷ d ∷ x) (e ∷ s) h i t g =
 
 -- ---- calm ends
 
--- the last bytes of two parts are those of the second
+-- two texts end calmly where the second does
 pub calm_append : (x y : Bytes) → is_calm y ≡ true → 1 ≤ length y → is_calm (x ++ y) ≡ true
 calm_append [] y h l = h
 calm_append (b ∷ []) [] h l = absurd (omega arith)
@@ -119,13 +124,8 @@ pub seam_append : (x y : Bytes) → begins_seam x ≡ true → begins_seam (x ++
 seam_append [] y h = absurd (cc)
 seam_append (b ∷ x) y h = h
 
--- and ends a trigraph, or doesn't, whatever follows it
+-- and its first byte ends no trigraph whatever follows it
 pub plain_append : (q : Bool) (x y : Bytes) → begins_seam x ≡ true → (q || begins_plain x) ≡ true
     → (q || begins_plain (x ++ y)) ≡ true
 plain_append q [] y i h = absurd (cc)
 plain_append q (b ∷ x) y i h = h
-
--- without the first bytes
-pub clean_drop : (n : ℕ) (z : Bytes) → IsNowhere is_refused z → IsNowhere is_refused (drop n z)
-clean_drop n z h =
-    clean_suffix (take n z) (drop n z) (subst (IsNowhere is_refused) (sym (take-append-drop n z)) h)

@@ -15,11 +15,11 @@ use Rattle.c_splice.specs.Words.{Spells}
 letter_calm : (b : ℕ) → is_letter b ≡ true → is_calm (b ∷ []) ≡ true
 letter_calm b h = grind (arith, nat_tests)
 
--- a digit is
+-- so is a digit
 digit_calm : (b : ℕ) → is_ascii_digit b ≡ true → is_calm (b ∷ []) ≡ true
 digit_calm b h = grind (arith, nat_tests)
 
--- so is what goes on a word
+-- and what goes on a word
 word_calm : (a b : ℕ) → goes_on_word a b ≡ true → is_calm (b ∷ []) ≡ true
 word_calm a b h = grind (arith, nat_tests)
 
@@ -70,7 +70,7 @@ closes_calm q passed (b ∷ d ∷ z) c h = (
     none_empty : (n : ℕ) → (suc n == 0) ≡ false
     none_empty n = grind (arith, nat_tests)
 
--- with a byte before it
+-- a byte before what ends calmly
 tail_calm : (b : ℕ) (z : Bytes) → (1 ≤ length z) × (is_calm z ≡ true) → is_calm (b ∷ z) ≡ true
 tail_calm b [] h = absurd (let l = h.0 in omega arith)
 tail_calm b (c ∷ z) h = h.1

@@ -1,8 +1,7 @@
 -- Punctuators, keywords and prefix operators in texts that are put together from parts.
-use Rattle.std.proofs.Common.{◌≡◌, ℕ, ◌≤◌, Bool, true, false, not, ◌||◌, ◌==◌, List, [], ◌∷◌, ◌++◌, length, codes, Ok, refl, sym, ap, ◌∙◌, subst, arith}
+use Rattle.std.proofs.Common.{◌≡◌, ℕ, ◌≤◌, Bool, true, false, not, ◌||◌, ◌==◌, List, [], ◌∷◌, ◌++◌, length, codes, refl, sym, ap, ◌∙◌, subst, arith}
 use Rattle.std.proofs.lemmas.Bool.Decides.{nat_tests}
 use Rattle.std.specs.Char.{is_ascii_digit}
-use Rattle.c_lex.specs.declared.front.Front.TheVariants as front
 use Rattle.c_lex.specs.declared.opening.Opening.TheVariants as opening
 use Rattle.c_lex.specs.declared.token.Keyword.{Keyword}
 use Rattle.c_lex.specs.declared.token.Punct.{Punct as Mark}
@@ -21,7 +20,7 @@ use Rattle.c_splice.specs.Seams.{is_seam, begins_seam, CutsInto, IsLoose, IsTigh
 use Rattle.c_splice.specs.Words.{Spells}
 use Rattle.c_splice.proofs.Pieces.{seam_longest, alone_longest}
 use Rattle.c_splice.proofs.Openings.{opening_seam}
-use Rattle.c_splice.proofs.Steps.{passes, takes}
+use Rattle.c_splice.proofs.Steps.{passes, takes_by}
 use Rattle.c_splice.proofs.TightWords.{tight_word}
 
 -- a punctuator of one byte that is the longest piece there is its token, and what follows is cut as
@@ -29,16 +28,14 @@ use Rattle.c_splice.proofs.TightWords.{tight_word}
 one_mark : {m : Macros} (p : Mark) (c : ℕ) (s : Bytes) (ls : List TokenKind) → punct_spelling p ≡ c ∷ []
     → opening_of (c ∷ s) ≡ opening.Mark → IsLongest (c ∷ []) s
     → CutsInto true m s ls → CutsInto true m (c ∷ s) (Punct p ∷ ls)
-one_mark {m} p c s ls e o h g = takes (c ∷ []) s (Punct p) 1 ls refl (omega arith) (λ at. stands at) g
-  where
-    marked : (at : ℕ) → Stands m at (c ∷ s) true opening.Mark (Ok (front.Take (Punct p) 1))
-    marked at =
-        subst (λ q. Stands m at (c ∷ s) true opening.Mark (Ok (front.Take (Punct p) (length q)))) e
-        (Stands.mark p s (ap (λ q. q ++ s) (sym e)) (subst (λ q. IsLongest q s) (sym e) h))
-
-    stands : (at : ℕ) → Stands m at (c ∷ s) true (opening_of (c ∷ s)) (Ok (front.Take (Punct p) 1))
-    stands at =
-        subst (λ q. Stands m at (c ∷ s) true q (Ok (front.Take (Punct p) 1))) (sym o) (marked at)
+one_mark {m} p c s ls e o h g =
+    let some = piece_not_empty (IsPiece.punctuator p refl) in
+    let opens : opening_of (punct_spelling p ++ s) ≡ opening.Mark =
+    ap (λ q. opening_of (q ++ s)) e ∙ o in
+    let longest = subst (λ q. IsLongest q s) (sym e) h in
+    subst (λ q. CutsInto true m (q ++ s) (Punct p ∷ ls)) e
+    (takes_by (punct_spelling p) s (Punct p) opening.Mark ls some opens
+    (λ at. Stands.mark p s refl longest) g)
 
 -- ---- one byte that is a token, whatever follows
 
@@ -149,14 +146,13 @@ mark_opens _ = refl
 mark_before : {m : Macros} (p : Mark) (s : Bytes) (ls : List TokenKind) → begins_seam s ≡ true
     → CutsInto true m s ls → CutsInto true m (punct_spelling p ++ s) (Punct p ∷ ls)
 mark_before p [] ls i g = absurd (cc)
-mark_before {m} p (b ∷ s) ls i g =
+mark_before p (b ∷ s) ls i g =
     let w = punct_spelling p in
     let some = piece_not_empty (IsPiece.punctuator p refl) in
     let opens = opening_seam w (32 ∷ []) s b opening.Mark some i (mark_opens p) refl in
-    takes w (b ∷ s) (Punct p) (length w) ls refl some
-    (λ at.
-    subst (λ q. Stands m at (w ++ b ∷ s) true q (Ok (front.Take (Punct p) (length w)))) opens
-    (Stands.mark p (b ∷ s) refl (seam_longest w s b some i (IsPiece.punctuator p refl)))) g
+    let longest = seam_longest w s b some i (IsPiece.punctuator p refl) in
+    takes_by w (b ∷ s) (Punct p) opening.Mark ls some (sym opens)
+    (λ at. Stands.mark p (b ∷ s) refl longest) g
 
 -- a punctuator is cut into its token before a seam
 pub mark_tight : {m : Macros} (p : Mark) → IsTight m (punct_spelling p) (Punct p ∷ [])

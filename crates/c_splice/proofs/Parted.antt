@@ -57,7 +57,7 @@ token_starts b z kind len s = by (is_space b) refl
     by false e = refl
     by true e = absurd (taken_no_space s (space_opens b z e) refl)
 
--- no tokens are no token and others
+-- no tokens are not tokens among which t is
 none_there : (pre : List Lexeme) (t : Lexeme) (post : List Lexeme)
     → ◌≡◌ {A = Outcome} (Ok []) (Ok (pre ++ t ∷ post)) → ⊥
 none_there [] t post e = cc
@@ -68,7 +68,7 @@ ends_more : (u : Lexeme) (pre : List Lexeme) → ends_other (u ∷ pre) ≡ true
 ends_more u [] h = refl
 ends_more u (v ∷ pre) h = h
 
--- a token after which nothing stands is the last of them
+-- a token before t, between which and t nothing stands, is the last before it
 question_last : (k : TokenKind) (u : Lexeme) (pre : List Lexeme) (x : Bytes) → k ≡ u.0
     → ends_other (u ∷ pre) ≡ true
     → (1 ≤ length pre → 1 ≤ length x) → length x ≡ 0 → not (is_other k) ≡ false

@@ -3,6 +3,7 @@ use Rattle.std.proofs.Common.{◌≡◌, ℕ, ℤ, ◌+◌, ◌≤◌, Bool, tru
 use Rattle.std.proofs.lemmas.List.{length-take-le}
 use Rattle.c_lex.specs.declared.front.Front.{Front}
 use Rattle.c_lex.specs.declared.front.Front.TheVariants as front
+use Rattle.c_lex.specs.declared.opening.Opening.{Opening}
 use Rattle.c_lex.specs.declared.token.TokenKind.{TokenKind}
 use Rattle.c_lex.specs.Bytes.{Bytes}
 use Rattle.c_lex.specs.Lexemes.{Lexeme, span_at, kinds}
@@ -57,6 +58,19 @@ takes {begun} {m} (b ∷ w) s kind len ks e l h g at =
     let r = g (at + len) in
     let later = subst (λ q. Cuts true m (at + len) q (Ok r.0)) (left (b ∷ w) s len e) r.1 in
     ((kind, span_at at len) ∷ r.0, Cuts.token kind len (h at) later, ap (λ q. kind ∷ q) r.2)
+
+-- the same by what the text begins with
+pub takes_by : {m : Macros} (w s : Bytes) (kind : TokenKind) (o : Opening) (ks : List TokenKind)
+    → 1 ≤ length w
+    → opening_of (w ++ s) ≡ o
+    → ((at : ℕ) → Stands m at (w ++ s) true o (Ok (front.Take kind (length w))))
+    → CutsInto true m s ks → CutsInto true m (w ++ s) (kind ∷ ks)
+takes_by {m} w s kind o ks l e h g = takes w s kind (length w) ks refl l (λ at. stands at) g
+  where
+    stands : (at : ℕ)
+        → Stands m at (w ++ s) true (opening_of (w ++ s)) (Ok (front.Take kind (length w)))
+    stands at =
+        subst (λ q. Stands m at (w ++ s) true q (Ok (front.Take kind (length w)))) (sym e) (h at)
 
 -- ---- a whole text from another place on
 

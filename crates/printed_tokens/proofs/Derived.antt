@@ -1,6 +1,8 @@
 -- The tokens of the text of a printed expression derive it.
-use Rattle.std.proofs.Common.{◌≡◌, ℕ, zero, suc, ◌+◌, ◌-◌, ◌≤◌, List, Some, refl, subst, arith}
+use Rattle.std.proofs.Common.{◌≡◌, ℕ, zero, suc, ◌+◌, ◌-◌, ◌≤◌, List, [], ◌∷◌, ◌++◌, Some, refl, subst, arith}
+use Rattle.c_lex.specs.declared.token.Punct.TheVariants as mark
 use Rattle.c_lex.specs.declared.token.TokenKind.{TokenKind}
+use Rattle.c_lex.specs.declared.token.TokenKind.TheVariants as kind
 use Rattle.c_lex.specs.Tokens.{Macros}
 use Rattle.c_tree.specs.declared.expr.BinOp.{BinOp}
 use Rattle.c_tree.specs.declared.expr.BinOp.TheVariants.{Mul, Div, Rem, Add, Sub, Shl, Shr, Lt, Le, Gt, Ge, Eq, Ne, BitAnd, BitXor, BitOr, Both, Either}
@@ -8,12 +10,12 @@ use Rattle.c_tree.specs.declared.expr.UnOp.{UnOp}
 use Rattle.c_tree.specs.declared.expr.UnOp.TheVariants.{Plus}
 use Rattle.c_tree.specs.declared.stmt.Ty.{Ty}
 use Rattle.c_tree.specs.declared.stmt.Ty.TheVariants.{Int, Char}
-use Rattle.c_tree.specs.Tree.{Tree, constant, name, index, call, unary, cast, binary, choice, assign, bump, comma, hole, hole_after, bare}
+use Rattle.c_tree.specs.Tree.{Tree, constant, name, index, call, unary, cast, binary, choice, assign, bump, comma, hole, hole_after, bare, no_span}
 use Rattle.c_grammar.specs.declared.part.Part.TheVariants.{Expression, Conditional, Binary, Cast, Unary, Primary}
 use Rattle.c_grammar.specs.Operators.{binary_operator, rank, prefix_operator, type_word}
 use Rattle.c_replace.specs.Shapes.{Shaped}
 use Rattle.c_replace.proofs.Shapes as shape
-use Rattle.printed_tokens.specs.PrintedKinds.{sign_mark, symbol_mark, type_key, operand_kinds, printed_kinds, Printable}
+use Rattle.printed_tokens.specs.PrintedKinds.{sign_mark, symbol_mark, type_key, enclosed, operand_kinds, printed_kinds, Printable}
 
 -- ---- parts that are expressions
 
@@ -86,68 +88,78 @@ type_is Char = refl
 
 -- ---- expressions
 
+-- a primary expression is a conditional
+conditional_of : {ks : List TokenKind} {t : Tree} → Shaped Primary ks t → Shaped Conditional ks t
+conditional_of x = shape.conditional (binary_of 10 x)
+
+-- a prefix operator before an operand
+signed : {ks : List TokenKind} {t : Tree} (f : UnOp) → Shaped Primary ks t
+    → Shaped Expression (kind.Punct (sign_mark f) ∷ ks) (unary f t no_span)
+signed f x = from_unary (shape.prefix (sign_mark f) f (sign_is f) (cast_of x))
+
+-- a cast of an operand
+casted : {ks : List TokenKind} {t : Tree} (ty : Ty) → Shaped Primary ks t
+    → Shaped Expression (enclosed (kind.Word (type_key ty) ∷ []) ++ ks) (cast ty t no_span)
+casted ty x =
+    let whole = shape.cast_to (type_key ty) ty (type_is ty) (cast_of x) in
+    from_binary 0 (omega arith) (shape.operand whole)
+
+-- an operator between two operands
+infixed : {ks ls : List TokenKind} {t u : Tree} (f : BinOp) → Shaped Primary ks t
+    → Shaped Primary ls u
+    → Shaped Expression (ks ++ kind.Punct (symbol_mark f) ∷ ls) (binary f t u no_span)
+infixed f x y =
+    let j = rank_some f in
+    let left = binary_of (suc j.0) x in
+    let right = binary_of j.0 y in
+    from_binary (suc j.0) j.2 (shape.binary (symbol_mark f) f (symbol_is f) j.1 left right)
+
+-- `?` and `:` between three
+chosen : {ks ls js : List TokenKind} {t u v : Tree} → Shaped Primary ks t → Shaped Primary ls u
+    → Shaped Primary js v
+    → Shaped Expression (ks ++ kind.Punct mark.Question ∷ (ls ++ kind.Punct mark.Colon ∷ js))
+    (choice t u v no_span)
+chosen x y z =
+    expression_of (shape.choose (binary_of 10 x) (expression_of (conditional_of y)) (conditional_of z))
+
+-- a comma between two
+paired : {ks ls : List TokenKind} {t u : Tree} → Shaped Primary ks t → Shaped Primary ls u
+    → Shaped Expression (ks ++ kind.Punct mark.Comma ∷ ls) (comma t u no_span)
+paired x y = shape.comma (expression_of (conditional_of x)) (shape.assignment (conditional_of y))
+
 mutual
   -- the tokens of an expression derive it
   pub read : (m : Macros) (t : Tree) → Printable m t → Shaped Expression (printed_kinds t) (bare t)
-  read m (constant n w s) p = expression_of (shape.conditional (binary_of 10 (shape.constant n w)))
-  read m (name w v s) p = expression_of (shape.conditional (binary_of 10 (shape.name w)))
-  read m (index w v e s) p =
-      expression_of (shape.conditional (binary_of 10 (shape.index w (read m e p.1))))
+  read m (constant n w s) p = expression_of (conditional_of (shape.constant n w))
+  read m (name w v s) p = expression_of (conditional_of (shape.name w))
+  read m (index w v e s) p = expression_of (conditional_of (shape.index w (read m e p.1)))
   read m (call w args s) p = absurd p
-  read m (unary op e s) p =
-      from_unary (shape.prefix (sign_mark op) op (sign_is op) (cast_of (read_operand m e p)))
-  read m (cast ty e s) p =
-      from_binary 0 (omega arith)
-      (shape.operand (shape.cast_to (type_key ty) ty (type_is ty) (cast_of (read_operand m e p))))
-  read m (binary op l r s) p =
-      let j = rank_some op in
-      from_binary (suc j.0) j.2
-      (shape.binary (symbol_mark op) op (symbol_is op) j.1
-      (binary_of (suc j.0) (read_operand m l p.0)) (binary_of j.0 (read_operand m r p.1)))
+  read m (unary op e s) p = signed op (read_operand m e p)
+  read m (cast ty e s) p = casted ty (read_operand m e p)
+  read m (binary op l r s) p = infixed op (read_operand m l p.0) (read_operand m r p.1)
   read m (choice t a b s) p =
-      expression_of
-      (shape.choose (binary_of 10 (read_operand m t p.0))
-      (expression_of (shape.conditional (binary_of 10 (read_operand m a p.1))))
-      (shape.conditional (binary_of 10 (read_operand m b p.2))))
+      chosen (read_operand m t p.0) (read_operand m a p.1) (read_operand m b p.2)
   read m (assign op place e s) p = absurd p
   read m (bump before up place s) p = absurd p
-  read m (comma l r s) p =
-      shape.comma (expression_of (shape.conditional (binary_of 10 (read_operand m l p.0))))
-      (shape.assignment (shape.conditional (binary_of 10 (read_operand m r p.1))))
+  read m (comma l r s) p = paired (read_operand m l p.0) (read_operand m r p.1)
   read m hole p = absurd p
   read m (hole_after e) p = absurd p
 
   -- its tokens as an operand derive it as a primary expression
-  pub read_operand : (m : Macros) (t : Tree) → Printable m t
+  read_operand : (m : Macros) (t : Tree) → Printable m t
       → Shaped Primary (operand_kinds t (printed_kinds t)) (bare t)
   read_operand m (constant n w s) p = shape.constant n w
   read_operand m (name w v s) p = shape.name w
   read_operand m (index w v e s) p = shape.index w (read m e p.1)
   read_operand m (call w args s) p = absurd p
-  read_operand m (unary op e s) p =
-      shape.paren
-      (from_unary (shape.prefix (sign_mark op) op (sign_is op) (cast_of (read_operand m e p))))
-  read_operand m (cast ty e s) p =
-      shape.paren
-      (from_binary 0 (omega arith)
-      (shape.operand (shape.cast_to (type_key ty) ty (type_is ty) (cast_of (read_operand m e p)))))
+  read_operand m (unary op e s) p = shape.paren (signed op (read_operand m e p))
+  read_operand m (cast ty e s) p = shape.paren (casted ty (read_operand m e p))
   read_operand m (binary op l r s) p =
-      let j = rank_some op in
-      shape.paren
-      (from_binary (suc j.0) j.2
-      (shape.binary (symbol_mark op) op (symbol_is op) j.1 (binary_of (suc j.0)
-      (read_operand m l p.0)) (binary_of j.0 (read_operand m r p.1))))
+      shape.paren (infixed op (read_operand m l p.0) (read_operand m r p.1))
   read_operand m (choice t a b s) p =
-      shape.paren
-      (expression_of
-      (shape.choose (binary_of 10 (read_operand m t p.0)) (expression_of
-      (shape.conditional (binary_of 10 (read_operand m a p.1)))) (shape.conditional
-      (binary_of 10 (read_operand m b p.2)))))
+      shape.paren (chosen (read_operand m t p.0) (read_operand m a p.1) (read_operand m b p.2))
   read_operand m (assign op place e s) p = absurd p
   read_operand m (bump before up place s) p = absurd p
-  read_operand m (comma l r s) p =
-      shape.paren
-      (shape.comma (expression_of (shape.conditional (binary_of 10 (read_operand m l p.0))))
-      (shape.assignment (shape.conditional (binary_of 10 (read_operand m r p.1)))))
+  read_operand m (comma l r s) p = shape.paren (paired (read_operand m l p.0) (read_operand m r p.1))
   read_operand m hole p = absurd p
   read_operand m (hole_after e) p = absurd p

@@ -33,7 +33,7 @@ not_true : (x : Bool) → not x ≡ true → x ≡ false
 not_true false h = refl
 not_true true h = absurd (cc)
 
--- such a text is clean
+-- what holds nothing of the kind by its bytes is clean
 clean_is : (z : Bytes) → is_clean z ≡ true → IsNowhere is_refused z
 clean_is [] h = clean_none
 clean_is (b ∷ z) h =
@@ -45,7 +45,7 @@ abbrev safe_test : Bytes → Bool
 safe_test [] = false
 safe_test (b ∷ z) = is_clean (b ∷ z) && is_calm (b ∷ z)
 
--- such a text is safe
+-- what is safe by its bytes is safe
 pub safe_is : (z : Bytes) → safe_test z ≡ true → IsSafe z
 safe_is [] h = absurd (cc)
 safe_is (b ∷ z) h =
@@ -55,7 +55,7 @@ safe_is (b ∷ z) h =
       some = omega arith;
     }
 
--- two safe texts are one
+-- two safe texts, one after the other, are safe
 pub safe_join : {x y : Bytes} → IsSafe x → IsSafe y → IsSafe (x ++ y)
 safe_join {x} {y} f g =
     record {
@@ -72,7 +72,7 @@ word_safe h = let c = spelled_calm h.spells in record { clean = h.clean; calm = 
 
 -- ---- expressions
 
--- an operator is
+-- an operator is safe
 symbol_safe : (f : BinOp) → IsSafe (symbol f)
 symbol_safe f = safe_is (symbol f) (test f)
   where
@@ -101,34 +101,43 @@ safe_enclosed f = safe_join (safe_join (safe_is (codes "(") refl) f) (safe_is (c
 space : IsSafe (codes " ")
 space = safe_is (codes " ") refl
 
+-- an element of an array
+indexed : {w x : Bytes} → IsSafe w → IsSafe x → IsSafe (w ++ codes "[" ++ x ++ codes "]")
+indexed f g = safe_join (safe_join (safe_join f (safe_is (codes "[") refl)) g) (safe_is (codes "]") refl)
+
+-- a cast
+casted : {x : Bytes} (ty : Ty) → IsSafe x → IsSafe (parenthesized (type_name ty) ++ codes " " ++ x)
+casted ty f = safe_join (safe_join (safe_enclosed (type_safe ty)) space) f
+
+-- an operator between two operands
+infixed : {x y : Bytes} (op : BinOp) → IsSafe x → IsSafe y
+    → IsSafe (x ++ codes " " ++ symbol op ++ codes " " ++ y)
+infixed op f g = safe_join (safe_join (safe_join (safe_join f space) (symbol_safe op)) space) g
+
+-- `?` and `:` between three
+chosen : {x y z : Bytes} → IsSafe x → IsSafe y → IsSafe z
+    → IsSafe (x ++ codes " ? " ++ y ++ codes " : " ++ z)
+chosen f g h =
+    safe_join (safe_join (safe_join (safe_join f (safe_is (codes " ? ") refl)) g) (safe_is (codes " : ") refl)) h
+
+-- a comma between two
+paired : {x y : Bytes} → IsSafe x → IsSafe y → IsSafe (x ++ codes ", " ++ y)
+paired f g = safe_join (safe_join f (safe_is (codes ", ") refl)) g
+
 mutual
   -- the text of an expression is safe
   pub safe : (m : Macros) (t : Tree) → Printable m t → IsSafe (printed t)
   safe m (constant n w s) p = word_safe p
   safe m (name w v s) p = word_safe p
-  safe m (index w v e s) p =
-      safe_join (safe_join (safe_join (word_safe p.0) (safe_is (codes "[") refl)) (safe m e p.1))
-      (safe_is (codes "]") refl)
+  safe m (index w v e s) p = indexed (word_safe p.0) (safe m e p.1)
   safe m (call w args s) p = absurd p
   safe m (unary op e s) p = safe_join (sign_safe op) (safe_operand m e p)
-  safe m (cast ty e s) p =
-      safe_join (safe_join (safe_enclosed (type_safe ty)) space) (safe_operand m e p)
-  safe m (binary op l r s) p =
-      safe_join
-      (safe_join (safe_join (safe_join (safe_operand m l p.0) space) (symbol_safe op)) space)
-      (safe_operand m r p.1)
-  safe m (choice t a b s) p =
-      safe_join
-      (safe_join
-      (safe_join (safe_join (safe_operand m t p.0)
-      (safe_is (codes " ? ") refl)) (safe_operand m a p.1))
-      (safe_is (codes " : ") refl))
-      (safe_operand m b p.2)
+  safe m (cast ty e s) p = casted ty (safe_operand m e p)
+  safe m (binary op l r s) p = infixed op (safe_operand m l p.0) (safe_operand m r p.1)
+  safe m (choice t a b s) p = chosen (safe_operand m t p.0) (safe_operand m a p.1) (safe_operand m b p.2)
   safe m (assign op place e s) p = absurd p
   safe m (bump before up place s) p = absurd p
-  safe m (comma l r s) p =
-      safe_join (safe_join (safe_operand m l p.0) (safe_is (codes ", ") refl))
-      (safe_operand m r p.1)
+  safe m (comma l r s) p = paired (safe_operand m l p.0) (safe_operand m r p.1)
   safe m hole p = absurd p
   safe m (hole_after e) p = absurd p
 
@@ -136,30 +145,17 @@ mutual
   safe_operand : (m : Macros) (t : Tree) → Printable m t → IsSafe (operand t (printed t))
   safe_operand m (constant n w s) p = word_safe p
   safe_operand m (name w v s) p = word_safe p
-  safe_operand m (index w v e s) p =
-      safe_join (safe_join (safe_join (word_safe p.0) (safe_is (codes "[") refl)) (safe m e p.1))
-      (safe_is (codes "]") refl)
+  safe_operand m (index w v e s) p = indexed (word_safe p.0) (safe m e p.1)
   safe_operand m (call w args s) p = absurd p
   safe_operand m (unary op e s) p = safe_enclosed (safe_join (sign_safe op) (safe_operand m e p))
-  safe_operand m (cast ty e s) p =
-      safe_enclosed
-      (safe_join (safe_join (safe_enclosed (type_safe ty)) space) (safe_operand m e p))
+  safe_operand m (cast ty e s) p = safe_enclosed (casted ty (safe_operand m e p))
   safe_operand m (binary op l r s) p =
-      safe_enclosed
-      (safe_join
-      (safe_join (safe_join (safe_join (safe_operand m l p.0) space) (symbol_safe op)) space)
-      (safe_operand m r p.1))
+      safe_enclosed (infixed op (safe_operand m l p.0) (safe_operand m r p.1))
   safe_operand m (choice t a b s) p =
-      safe_enclosed
-      (safe_join
-      (safe_join (safe_join (safe_join (safe_operand m t p.0) (safe_is (codes " ? ") refl))
-      (safe_operand m a p.1)) (safe_is (codes " : ") refl))
-      (safe_operand m b p.2))
+      safe_enclosed (chosen (safe_operand m t p.0) (safe_operand m a p.1) (safe_operand m b p.2))
   safe_operand m (assign op place e s) p = absurd p
   safe_operand m (bump before up place s) p = absurd p
   safe_operand m (comma l r s) p =
-      safe_enclosed
-      (safe_join (safe_join (safe_operand m l p.0) (safe_is (codes ", ") refl))
-      (safe_operand m r p.1))
+      safe_enclosed (paired (safe_operand m l p.0) (safe_operand m r p.1))
   safe_operand m hole p = absurd p
   safe_operand m (hole_after e) p = absurd p

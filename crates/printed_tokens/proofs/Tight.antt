@@ -67,7 +67,7 @@ sign_tight Flip i g = not_tight i g
 sign_tight Compl i g = tilde_tight i g
 
 -- a text in parentheses
-enclosed_tight : {m : Macros} {x : Bytes} {ks : List TokenKind} → IsTight m x ks
+pub enclosed_tight : {m : Macros} {x : Bytes} {ks : List TokenKind} → IsTight m x ks
     → IsLoose m (parenthesized x) (enclosed ks)
 enclosed_tight {ks = ks} f = tight_loose (loose_tight open_paren f) refl close_paren
 
@@ -204,7 +204,7 @@ mutual
   tight m (hole_after e) p = absurd p
 
   -- so is its text as an operand
-  pub tight_operand : (m : Macros) (t : Tree) → Printable m t
+  tight_operand : (m : Macros) (t : Tree) → Printable m t
       → IsTight m (operand t (printed t)) (operand_kinds t (printed_kinds t))
   tight_operand m (constant n w s) p = tight_word p.spells
   tight_operand m (name w v s) p = tight_word p.spells
