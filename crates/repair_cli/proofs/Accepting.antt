@@ -7,6 +7,7 @@ use Rattle.c_lex.proofs.Cutting.{one_outcome}
 use Rattle.c_grammar.specs.Grammar.{Tokens}
 use Rattle.c_grammar.specs.Programs.{Derives}
 use Rattle.c_grammar.specs.Judge.{Verdict, good, unexpected_at, too_deep_at, Judged, judge}
+use Rattle.c_grammar.proofs.TooDeep.{passes_deep}
 use Rattle.c_grammar.proofs.Verdicts.{one, judge_is}
 use Rattle.c_parse.specs.Faults.{place_of, Causes}
 use Rattle.c_parse.specs.declared.fault.ParseFault.{ParseFault}
@@ -63,11 +64,11 @@ one_cause end ts (parse.Unexpected m) (parse.Unexpected n) a b x y =
     let r : x.0 ≡ y.0 = cc in
     ap (λ k. parse.Unexpected k) (x.1 ∙ ap (place_of end) r ∙ sym y.1)
 one_cause end ts (parse.Unexpected m) (parse.TooDeep n) a b x y =
-    let e = one_verdict ts (unexpected_at x.0) (too_deep_at y.0) x.2 y.2 in absurd (cc)
+    let e = one_verdict ts (unexpected_at x.0) (too_deep_at y.0) x.2 (passes_deep 64 ts y.0 y.2) in absurd (cc)
 one_cause end ts (parse.TooDeep m) (parse.Unexpected n) a b x y =
-    let e = one_verdict ts (too_deep_at x.0) (unexpected_at y.0) x.2 y.2 in absurd (cc)
+    let e = one_verdict ts (too_deep_at x.0) (unexpected_at y.0) (passes_deep 64 ts x.0 x.2) y.2 in absurd (cc)
 one_cause end ts (parse.TooDeep m) (parse.TooDeep n) a b x y =
-    let e = one_verdict ts (too_deep_at x.0) (too_deep_at y.0) x.2 y.2 in
+    let e = one_verdict ts (too_deep_at x.0) (too_deep_at y.0) (passes_deep 64 ts x.0 x.2) (passes_deep 64 ts y.0 y.2) in
     let r : x.0 ≡ y.0 = cc in
     ap (λ k. parse.TooDeep k) (x.1 ∙ ap (place_of end) r ∙ sym y.1)
 one_cause end ts parse.NoMemory g a b x y = absurd (a refl)
@@ -76,7 +77,7 @@ one_cause end ts f parse.NoMemory a b x y = absurd (b refl)
 -- a source that has a tree has no fault in its tokens
 no_cause : (end : ℕ) (ts : Tokens) (tree : List Outer) (f : ParseFault) → f ≢ parse.NoMemory → Derives 64 ts tree → Causes end ts f → ⊥
 no_cause end ts tree (parse.Unexpected n) a d x = let e = one_verdict ts (good tree) (unexpected_at x.0) d x.2 in absurd (cc)
-no_cause end ts tree (parse.TooDeep n) a d x = let e = one_verdict ts (good tree) (too_deep_at x.0) d x.2 in absurd (cc)
+no_cause end ts tree (parse.TooDeep n) a d x = let e = one_verdict ts (good tree) (too_deep_at x.0) d (passes_deep 64 ts x.0 x.2) in absurd (cc)
 no_cause end ts tree parse.NoMemory a d x = a refl
 
 -- a source that has a tree has no fault but that the tree can't be run

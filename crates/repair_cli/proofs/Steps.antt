@@ -1,6 +1,6 @@
 -- One step of the work after another.
 use Rattle.std.proofs.Common.{◌≡◌, ℕ, ◌≤◌, ◌⊎◌, List, ap, subst, sym, inl, inr, refl, arith, ◌∙◌}
-use Rattle.std.specs.Prelude.{Some, Option}
+use Rattle.std.specs.Prelude.{Some, Option, unwrap_or}
 use Rattle.fx_io.specs.Faults.{Rose}
 use Rattle.fx_io.specs.Held.{Lacks}
 use Rattle.fx_io.proofs.FaultCounts.{Rose-later}
@@ -11,11 +11,11 @@ use Rattle.repair_job.specs.Job.{Job}
 use Rattle.repair_job.specs.declared.answer.Answer.{Answer}
 use Rattle.repair_job.specs.declared.answer.Answer.TheVariants as answer
 use Rattle.repair_cli.specs.Words.{Asked, repair, command_in}
-use Rattle.repair_cli.specs.Jobs.{IsLimit}
+use Rattle.repair_cli.specs.Jobs.{IsLimit, CanBeDone}
 use Rattle.repair_cli.specs.Ends.{Ends, IsAnswer}
 use Rattle.repair_cli.specs.Parts.{GivesNoProgram, GivesNoSuite, Reports}
 use Rattle.repair_cli.specs.Sinks.{Seen}
-use Rattle.repair_cli.specs.Source.{Files, File, Source, file_in, Asks, HoldsProgram, HoldsSuite, Cause}
+use Rattle.repair_cli.specs.Source.{Files, File, Source, file_in, Asks, States, HoldsProgram, HoldsSuite, Cause}
 use Rattle.repair_cli.specs.declared.status.Status.{Status}
 use Rattle.repair_cli.specs.declared.status.Status.TheVariants as status
 use Rattle.repair_cli.proofs.Commands.{limit_in}
@@ -62,6 +62,23 @@ suite_held held mid name f0 f1 f2 tests limit same h = subst (λ (h : Option Fil
 -- the limit of the suites can be run
 pub default_is_limit : (limit : ℕ) → limit ≡ default_limit → IsLimit limit
 default_is_limit limit e = record { some = omega (arith, e); most = omega (arith, e) }
+
+-- the words and the files state the job, and it can be done
+pub job_states : (source : Source) (asked : Asked) (job : Job) (bytes : List ℕ) (tree : List Outer) (tests : List Test) (limit : ℕ)
+    → Asks source asked → HoldsProgram (file_in source asked.program) bytes tree → HoldsSuite (file_in source asked.suite) tests limit
+    → job.source ≡ bytes → job.program ≡ tree → job.tests ≡ tests → job.limit ≡ unwrap_or asked.options.limit limit → job.most_patches ≡ asked.options.patches
+    → States source job × CanBeDone job
+job_states source asked job bytes tree tests limit valid program suite b t u l m =
+    let from_bytes : HoldsProgram (file_in source asked.program) job.source tree =
+    subst (λ (x : List ℕ). HoldsProgram (file_in source asked.program) x tree) (sym b) program in
+    let held : HoldsProgram (file_in source asked.program) job.source job.program =
+    subst (λ (x : List Outer). HoldsProgram (file_in source asked.program) job.source x) (sym t) from_bytes in
+    let judged : HoldsSuite (file_in source asked.suite) job.tests limit =
+    subst (λ (x : List Test). HoldsSuite (file_in source asked.suite) x limit) (sym u) suite in
+    let own : job.limit ≡ limit = l ∙ limit_in source.words asked limit valid in (
+      record { asked = asked; valid = valid; program = held; limit = limit; suite = judged; limit_is = l; patches_are = m },
+      record { limit = default_is_limit job.limit (own ∙ suite.2.limit_is); few = held.1.runnable.few },
+    )
 
 -- the text of the answer was written, or its write failed
 pub answer_reported : (s : Source) (out err : Seen) (answer : Answer) (text : List ℕ) (result : Status) → IsAnswer s answer text → Reports out err answer text result → Ends s out err result

@@ -1,8 +1,11 @@
 //! Which programs are accepted.
-ghost use Rattle.std.specs.Prelude.{MatchResult};
+ghost use Rattle.std.specs.Prelude.{◌≡◌, ◌≢◌, MatchResult};
+ghost use Rattle.c_lex.specs.declared.fault.LexFault.TheVariants as lex;
+ghost use Rattle.c_parse.specs.declared.fault.ParseFault.TheVariants as parse;
 ghost use Rattle.c_types.specs.Shown.{tree_of};
 ghost use Rattle.repair_cli.specs.Accepted.{IsProgram, IsShort};
 ghost use Rattle.repair_cli.specs.Parts.{IsFaultUnless};
+ghost use Rattle.repair_cli.specs.declared.fault.ProgramFault.TheVariants.{Lex, Parse, NoMemory};
 
 use crate::fault::ProgramFault;
 use crate::tried::has_few_locations;
@@ -24,13 +27,11 @@ pub(crate) fn accept(alloc: Global, bytes: &[u8]) -> Result<Typed, ProgramFault>
     let end = bytes.len() as u32;
     let tokens = match lex(alloc, bytes) {
         Ok(tokens) => tokens,
-        Err(LexFault::NoMemory) => return Err(ProgramFault::NoMemory),
-        Err(fault) => return Err(ProgramFault::Lex(fault)),
+        Err(fault) => return Err(of_text(fault)),
     };
     let tree = match parse(alloc, &tokens, end) {
         Ok(tree) => tree,
-        Err(ParseFault::NoMemory) => return Err(ProgramFault::NoMemory),
-        Err(fault) => return Err(ProgramFault::Parse(fault)),
+        Err(fault) => return Err(of_tokens(fault)),
     };
     if !is_plain(&tree) {
         return Err(ProgramFault::Unsupported);
@@ -40,9 +41,34 @@ pub(crate) fn accept(alloc: Global, bytes: &[u8]) -> Result<Typed, ProgramFault>
         Err(TypeFault::Unsupported) => return Err(ProgramFault::Unsupported),
         Err(TypeFault::NoMemory) => return Err(ProgramFault::NoMemory),
     };
-    match has_few_locations(alloc, &program) {
-        Ok(true) => Ok(program),
-        Ok(false) => Err(ProgramFault::Unsupported),
-        Err(_) => Err(ProgramFault::NoMemory),
+    let few = match has_few_locations(alloc, &program) {
+        Ok(few) => few,
+        Err(_) => return Err(ProgramFault::NoMemory),
+    };
+    if !few {
+        return Err(ProgramFault::Unsupported);
+    }
+    Ok(program)
+}
+
+// The fault of a program whose text has this one.
+fn of_text(fault: LexFault) -> ProgramFault
+    ensures none { fault ≡ lex.NoMemory → result ≡ NoMemory }
+    ensures some { fault ≢ lex.NoMemory → result ≡ Lex fault }
+{
+    match fault {
+        LexFault::NoMemory => ProgramFault::NoMemory,
+        _ => ProgramFault::Lex(fault),
+    }
+}
+
+// The fault of a program whose tokens have this one.
+fn of_tokens(fault: ParseFault) -> ProgramFault
+    ensures none { fault ≡ parse.NoMemory → result ≡ NoMemory }
+    ensures some { fault ≢ parse.NoMemory → result ≡ Parse fault }
+{
+    match fault {
+        ParseFault::NoMemory => ProgramFault::NoMemory,
+        _ => ProgramFault::Parse(fault),
     }
 }

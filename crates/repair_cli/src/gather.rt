@@ -14,7 +14,7 @@ use crate::fault::ProgramFault;
 use crate::job::Job;
 use crate::limits::{SOURCE_LIMIT, SUITE_LIMIT};
 use crate::refusal::Refusal;
-use crate::words::{Command, Options, command_of};
+use crate::words::{Options, asked_by, command_of};
 use c_types::Typed;
 use fx_io::{Files, ReadEnd, read_whole};
 use std::alloc::Global;
@@ -42,10 +42,11 @@ pub(crate) fn gathered<'a, F: Files>(
     ensures sure { let given = source F.held F.faults words.now files.old files.new in
         F.sure files.old → HasFiles given → IfErr result (λ refusal. OnRead refusal ⊥) }
 {
-    let asked = match command_of(words) {
-        Some(Command::Repair(asked)) => asked,
+    let command = match command_of(words) {
+        Some(command) => command,
         None => return Err(Refusal::Usage),
     };
+    let asked = asked_by(command);
     let subject = match program_named(alloc, files, asked.program) {
         Ok(subject) => subject,
         Err(refusal) => return Err(refusal),

@@ -1,6 +1,7 @@
 //! The words of the command line: a command with its options.
 ghost use Rattle.std.specs.Prelude.{◌≡◌, option_map};
-ghost use Rattle.repair_cli.specs.Words.{command_in, command_of as seen_command, words_of, is_name as is_valid_name};
+ghost use Rattle.repair_cli.specs.Words.{repair, command_in, command_of as command_seen, asked_of as asked_seen};
+ghost use Rattle.repair_cli.specs.Words.{words_of, is_name as is_valid_name};
 
 use crate::limits::DEFAULT_PATCHES;
 
@@ -36,7 +37,7 @@ const NO_OPTIONS: Options = Options {
 
 /// The command that the words are, where they are `repair` and two names.
 pub(crate) fn command_of(words: &[String]) -> Option<Command<'_>>
-    ensures { option_map seen_command result ≡ command_in (words_of words.now) }
+    ensures { option_map command_seen result ≡ command_in (words_of words.now) }
 {
     let [word, program, suite] = words else {
         return None;
@@ -49,6 +50,15 @@ pub(crate) fn command_of(words: &[String]) -> Option<Command<'_>>
         }))
     } else {
         None
+    }
+}
+
+/// What a command asks for.
+pub(crate) fn asked_by(command: Command<'_>) -> Asked<'_>
+    ensures { command_seen command.entry ≡ repair (asked_seen result) }
+{
+    match command {
+        Command::Repair(asked) => asked,
     }
 }
 

@@ -1,0 +1,59 @@
+use Rattle.std.proofs.Common.{◌≡◌, ◌≢◌, ◌∙◌, List, ℕ, Ok, true, false, sym, subst}
+use Rattle.c_tree.specs.Views.{program}
+use Rattle.c_lex.specs.Tokens.{Lexes}
+use Rattle.c_lex.specs.declared.fault.LexFault.TheVariants as lex
+use Rattle.c_grammar.specs.Grammar.{Tokens}
+use Rattle.c_parse.specs.declared.fault.ParseFault.TheVariants as parse
+use Rattle.c_types.specs.Shown.{tree_of}
+use Rattle.plain_form.specs.Form.{is_plain}
+use Rattle.repair_job.specs.Patches.{HasFewLocations}
+use Rattle.repair_cli.specs.Accepted.{IsShort, IsCut, IsRead}
+use Rattle.repair_cli.specs.Faults.{IsFault}
+use Rattle.repair_cli.specs.declared.fault.ProgramFault.{ProgramFault}
+use Rattle.repair_cli.proofs.Accepting.{not_plain, not_named, not_few}
+use Rattle.repair_cli.proofs.accept.accept.Goals as goal
+
+-- a source has the tokens that were lent
+cut : (bytes : List ℕ) (ts us : Tokens) → IsShort bytes → Lexes bytes (Ok ts) → us ≡ ts → IsCut bytes us
+cut bytes ts us short h e = record { short = short; cut = subst (λ (x : Tokens). Lexes bytes (Ok x)) (sym e) h }
+
+pub returns-in-Err : goal.returns-in-Err
+returns-in-Err c =
+    λ h.
+    let n : c.in-Err.fault ≢ lex.NoMemory = λ e. h (c.of_text.ensures.none e) in
+    subst (λ (f : ProgramFault). IsFault c.args.bytes.now f) (sym (c.of_text.ensures.some n))
+    (IsFault.of_text c.in-Err.fault n c.requires (c.in-Err.ensures.err n))
+
+pub returns-in-Err-parse : goal.returns-in-Err-parse
+returns-in-Err-parse c =
+    λ h.
+    let n : c.in-Err-parse.fault ≢ parse.NoMemory = λ e. h (c.of_tokens.ensures.none e) in
+    subst (λ (f : ProgramFault). IsFault c.args.bytes.now f) (sym (c.of_tokens.ensures.some n))
+    (IsFault.of_tokens c.in-Err-parse.fault c.deref.result.now n (cut _ _ _ c.requires c.in-Ok.ensures.ok c.deref.ensures.value) c.in-Err-parse.ensures.refused)
+
+pub returns-then-not-is_plain : goal.returns-then-not-is_plain
+returns-then-not-is_plain c =
+    λ h.
+    let read : IsRead c.args.bytes.now (program c.in-Ok-parse.tree) =
+    record { tokens = c.deref.result.now; cut = cut _ _ _ c.requires c.in-Ok.ensures.ok c.deref.ensures.value; derived = c.in-Ok-parse.ensures.derived } in
+    let e : is_plain (program c.in-Ok-parse.tree) ≡ false = sym c.is_plain.ensures ∙ c.if-not-is_plain.true in
+    IsFault.of_tree (program c.in-Ok-parse.tree) read (not_plain (program c.in-Ok-parse.tree) e)
+
+pub returns-in-Err-Unsupported : goal.returns-in-Err-Unsupported
+returns-in-Err-Unsupported c =
+    λ h.
+    let read : IsRead c.args.bytes.now (program c.in-Ok-parse.tree) =
+    record { tokens = c.deref.result.now; cut = cut _ _ _ c.requires c.in-Ok.ensures.ok c.deref.ensures.value; derived = c.in-Ok-parse.ensures.derived } in
+    IsFault.of_tree (program c.in-Ok-parse.tree) read (not_named (program c.in-Ok-parse.tree) (rw c.in-Err-Unsupported.field-0-is at c.in-Err-Unsupported.ensures.refused))
+
+pub returns-then-not-few : goal.returns-then-not-few
+returns-then-not-few c =
+    λ h.
+    let tree = program c.in-Ok-parse.tree in
+    let own = tree_of c.in-Ok-check.program in
+    let read : IsRead c.args.bytes.now tree =
+    record { tokens = c.deref.result.now; cut = cut _ _ _ c.requires c.in-Ok.ensures.ok c.deref.ensures.value; derived = c.in-Ok-parse.ensures.derived } in
+    let many : HasFewLocations own → ⊥ =
+    λ few. let t : c.in-Ok-has_few_locations.few ≡ true = c.in-Ok-has_few_locations.ensures.1 few in
+    let f : c.in-Ok-has_few_locations.few ≡ false = c.if-not-few.true in absurd (cc) in
+    IsFault.of_tree tree read (not_few tree own c.in-Ok-check.ensures.resolved many)
