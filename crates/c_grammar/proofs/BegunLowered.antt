@@ -1,8 +1,8 @@
--- What begins a program, and has room to spare behind its openers, begins one with less room: so it begins one with any room that its
+-- What begins a program, and has room to spare after its openers, begins one with less room: so it begins one with any room that its
 -- nesting doesn't pass.
 use Rattle.std.proofs.Common.{◌≡◌, ℕ, zero, suc, ◌≤◌, ◌<◌, ◌+◌, ◌-◌, List, [], ◌∷◌, ◌++◌, ◌⊎◌, inl, inr, arith, subst, refl, All, Any}
 use Rattle.std.proofs.lemmas.List.Elements.{All-nil, All-cons}
-use Rattle.c_grammar.specs.declared.part.Part.{Part}
+use Rattle.c_grammar.specs.declared.nonterminal.Nonterminal.{Nonterminal}
 use Rattle.c_grammar.specs.Grammar.{Tokens, Begins, BeginsArgument, BeginsArguments}
 use Rattle.c_grammar.specs.Programs.{BeginsLength, BeginsElements, BeginsDeclarator, BeginsDeclarators, BeginsVars, BeginsClause, BeginsStatement, BeginsItems, BeginsParameter, BeginsParameters, BeginsSignature, BeginsExternal, Viable}
 use Rattle.c_grammar.specs.Nesting.{Opener, nesting}
@@ -11,14 +11,14 @@ use Rattle.c_grammar.specs.Rooms.{rooms, argument_rooms, length_rooms, declarato
 use Rattle.c_grammar.specs.BegunRooms.{begun_rooms, begun_argument_rooms, begun_arguments_rooms, begun_length_rooms, begun_elements_rooms, begun_declarator_rooms, begun_declarators_rooms, begun_vars_rooms, begun_clause_rooms, begun_statement_rooms, begun_items_rooms, begun_parameter_rooms, begun_parameters_rooms, begun_signature_rooms, begun_external_rooms, viable_rooms}
 use Rattle.c_grammar.proofs.ProgramBasics.{viable_lift}
 use Rattle.c_grammar.proofs.Nested.{larger}
-use Rattle.c_grammar.proofs.Lowered.{Spare, first, others, left, right, leaving, suc_less, reads_lower, argument_lower, arguments_lower}
+use Rattle.c_grammar.proofs.ExpressionLowered.{Spare, first, others, left, right, leaving, suc_less, reads_lower, argument_lower, arguments_lower}
 use Rattle.c_grammar.proofs.ProgramLowered.{length_in, length_lower, elements_lower, declarator_lower, vars_lower, clause_lower, optional_lower, statement_in, two_less, statement_lower, parameter_lower, signature_lower, external_lower, spared}
-use Rattle.c_grammar.proofs.FrontNesting.{front_room_used}
+use Rattle.c_grammar.proofs.ViableNesting.{viable_room_used}
 
 -- ---- expressions
 
 mutual
-  pub begun_lower : {N : Part} {r : ℕ} {a b : Tokens} (x : ℕ) (d : Begins N r a b) → Spare x (begun_rooms d) → Begins N (r - x) a b
+  pub begun_lower : {N : Nonterminal} {r : ℕ} {a b : Tokens} (x : ℕ) (d : Begins N r a b) → Spare x (begun_rooms d) → Begins N (r - x) a b
   begun_lower x Begins.none h = Begins.none
   begun_lower x Begins.constant h = Begins.constant
   begun_lower x Begins.name h = Begins.name
@@ -230,10 +230,10 @@ viable_raise {r = r} zero d = let e : 0 + r ≡ r = omega arith in rw e d
 viable_raise {r = r} (suc x) d = let e : suc x + r ≡ suc (x + r) = omega arith in rw e (viable_lift (viable_raise x d))
 
 -- what begins a program, and has openers that nest nowhere deeper than a room, begins one with that room
-pub front_nesting_suffices : (r s : ℕ) (a b : Tokens) (d : Viable s a b) → All (λ o. nesting (viable_openers d) o.0 ≤ r) (viable_openers d) → Viable r a b
-front_nesting_suffices r s a b d h = elim (larger s r) [
+pub viable_nesting_suffices : (r s : ℕ) (a b : Tokens) (d : Viable s a b) → All (λ o. nesting (viable_openers d) o.0 ≤ r) (viable_openers d) → Viable r a b
+viable_nesting_suffices r s a b d h = elim (larger s r) [
   | inl x ↦ let e : (r - s) + s ≡ r = omega arith in subst (λ k. Viable k a b) e (viable_raise (r - s) d)
-  | inr x ↦ let e : s - (s - r) ≡ r = omega arith in subst (λ k. Viable k a b) e (viable_lower (s - r) d (spared (viable_openers d) r (front_room_used s a b d) h))
+  | inr x ↦ let e : s - (s - r) ≡ r = omega arith in subst (λ k. Viable k a b) e (viable_lower (s - r) d (spared (viable_openers d) r (viable_room_used s a b d) h))
 ]
 
 -- at each of these openers the nesting is at most r, or at one of them it is more
@@ -245,5 +245,5 @@ deep_or l r (o ∷ k) = elim (larger (nesting l o.0) r) [
 ]
 
 -- what begins a program, but none with this room, has an opener that nests deeper
-pub front_deep : (r s : ℕ) (a b : Tokens) (d : Viable s a b) → (Viable r a b → ⊥) → Any (λ o. r < nesting (viable_openers d) o.0) (viable_openers d)
-front_deep r s a b d h = elim (deep_or (viable_openers d) r (viable_openers d)) [ inl x ↦ absurd (h (front_nesting_suffices r s a b d x)) | inr x ↦ x ]
+pub viable_deep : (r s : ℕ) (a b : Tokens) (d : Viable s a b) → (Viable r a b → ⊥) → Any (λ o. r < nesting (viable_openers d) o.0) (viable_openers d)
+viable_deep r s a b d h = elim (deep_or (viable_openers d) r (viable_openers d)) [ inl x ↦ absurd (h (viable_nesting_suffices r s a b d x)) | inr x ↦ x ]

@@ -1,34 +1,35 @@
 -- The room of what begins an expression is its nesting.
 use Rattle.std.proofs.Common.{ℕ, suc, ◌≤◌, ◌<◌, List, [], ◌∷◌, ◌++◌, arith, length}
-use Rattle.c_grammar.specs.declared.part.Part.{Part}
+use Rattle.c_grammar.specs.declared.nonterminal.Nonterminal.{Nonterminal}
+use Rattle.c_grammar.specs.Terminals.{rest}
 use Rattle.c_grammar.specs.Grammar.{Tokens, Begins, BeginsArgument, BeginsArguments}
-use Rattle.c_grammar.specs.Nesting.{Opener, next, ending, arguments_ending}
+use Rattle.c_grammar.specs.Nesting.{Opener, ending, arguments_ending}
 use Rattle.c_grammar.specs.BegunNesting.{begun_openers, begun_argument_openers, begun_arguments_openers}
 use Rattle.c_grammar.specs.BegunRooms.{begun_rooms, begun_argument_rooms, begun_arguments_rooms}
-use Rattle.c_grammar.proofs.Nested.{Fits, fits_none, fits_one, fits_join, fits_open, fits_wide, fits_shut}
+use Rattle.c_grammar.proofs.Nested.{NestsIn, nests_none, nests_one, nests_join, nests_open, nests_wide, nests_shut}
 use Rattle.c_grammar.proofs.ExpressionNesting.{reads_fit, reads_bracketed, argument_fit, arguments_fit}
 
 -- ---- openers that fit the rooms, of which some are closed nowhere
 
--- Begun r i j k q: in what begins a part, with i tokens before it and j behind it, and room r before it, the openers k stand, with the rooms q
--- behind them.
+-- Begun r i j k q: in what begins a part, with i tokens before it and j after it, and room r before it, the openers k stand, with the rooms q
+-- after them.
 pub record Begun (r i j : ℕ) (k : List Opener) (q : List ℕ) : Type 0 where
   pub left : ℕ
-  pub fits : Fits r left i j 0 k q
+  pub fits : NestsIn r left i j 0 k q
 
-pub begun_whole : {r m i j : ℕ} {k : List Opener} {q : List ℕ} → Fits r m i j 0 k q → Begun r i j k q
+pub begun_whole : {r m i j : ℕ} {k : List Opener} {q : List ℕ} → NestsIn r m i j 0 k q → Begun r i j k q
 begun_whole {m = m} f = record { left = m; fits = f }
 
 pub begun_none : (r i j : ℕ) → j ≤ i → Begun r i j [] []
-begun_none r i j h = begun_whole (fits_none r i j 0 h (omega arith))
+begun_none r i j h = begun_whole (nests_none r i j 0 h (omega arith))
 
--- what begins a part behind a part
-pub begun_join : {r m i j h p : ℕ} {k l : List Opener} {q s : List ℕ} → Fits r m i j 0 k q → Begun m h p l s → h ≤ j → Begun r i p (k ++ l) (q ++ s)
-begun_join f g x = begun_whole (fits_join f g.fits x)
+-- what begins a part after a part
+pub begun_join : {r m i j h p : ℕ} {k l : List Opener} {q s : List ℕ} → NestsIn r m i j 0 k q → Begun m h p l s → h ≤ j → Begun r i p (k ++ l) (q ++ s)
+begun_join f g x = begun_whole (nests_join f g.fits x)
 
 -- an opener before what begins a part
 pub begun_open : {m h j : ℕ} {k : List Opener} {q : List ℕ} (a : Tokens) → Begun m h j k q → h < length a → Begun (suc m) (length a) j ((a, []) ∷ k) (m ∷ q)
-begun_open a f x = begun_whole (fits_open a [] f.fits x)
+begun_open a f x = begun_whole (nests_open a [] f.fits x)
 
 -- an opener that is the last
 pub begun_one : (m j : ℕ) (a : Tokens) → j < length a → Begun (suc m) (length a) j ((a, []) ∷ []) (m ∷ [])
@@ -36,22 +37,22 @@ begun_one m j a x = begun_open a (begun_none m j j (omega arith)) x
 
 -- what begins a part, looked at from further off
 pub begun_wide : {r i j h p : ℕ} {k : List Opener} {q : List ℕ} → Begun r i j k q → i ≤ h → p ≤ j → Begun r h p k q
-begun_wide f x y = begun_whole (fits_wide f.fits x y (omega arith))
+begun_wide f x y = begun_whole (nests_wide f.fits x y (omega arith))
 
 -- ---- expressions
 
 mutual
-  pub begun_fit : {N : Part} {r : ℕ} {a b : Tokens} (d : Begins N r a b) → Begun r (length a) (length b) (begun_openers d) (begun_rooms d)
+  pub begun_fit : {N : Nonterminal} {r : ℕ} {a b : Tokens} (d : Begins N r a b) → Begun r (length a) (length b) (begun_openers d) (begun_rooms d)
   begun_fit {r = r} {a = a} {b = b} Begins.none = begun_none r (length a) (length b) (omega arith)
   begun_fit {r = r} {a = a} {b = b} Begins.constant = begun_none r (length a) (length b) (omega arith)
   begun_fit {r = r} {a = a} {b = b} Begins.name = begun_none r (length a) (length b) (omega arith)
-  begun_fit {a = a} (Begins.index d) = begun_wide (begun_open (next a) (begun_fit d) (omega arith)) (omega arith) (omega arith)
-  begun_fit {a = a} {b = b} (Begins.index_end d) = begun_wide (begun_whole (reads_bracketed (next a) d (omega arith) (length b) 0 (omega arith) (omega arith))) (omega arith) (omega arith)
+  begun_fit {a = a} (Begins.index d) = begun_wide (begun_open (rest a) (begun_fit d) (omega arith)) (omega arith) (omega arith)
+  begun_fit {a = a} {b = b} (Begins.index_end d) = begun_wide (begun_whole (reads_bracketed (rest a) d (omega arith) (length b) 0 (omega arith) (omega arith))) (omega arith) (omega arith)
   begun_fit {a = a} (Begins.call_bare {r = r}) =
-      begun_whole (fits_shut (fits_one r (length (next a)) (length (next (next a))) (next a) (next (next a)) (omega arith) (omega arith) (omega arith)) (omega arith) (omega arith) (omega arith))
-  begun_fit {a = a} (Begins.call d) = begun_wide (begun_open (next a) (begun_arguments_fit d) (omega arith)) (omega arith) (omega arith)
+      begun_whole (nests_shut (nests_one r (length (rest a)) (length (rest (rest a))) (rest a) (rest (rest a)) (omega arith) (omega arith) (omega arith)) (omega arith) (omega arith) (omega arith))
+  begun_fit {a = a} (Begins.call d) = begun_wide (begun_open (rest a) (begun_arguments_fit d) (omega arith)) (omega arith) (omega arith)
   begun_fit {a = a} (Begins.call_end d) =
-      begun_whole (fits_shut (fits_open (next a) (arguments_ending d) (arguments_fit d (length (arguments_ending d)) (omega arith)) (omega arith)) (omega arith) (omega arith) (omega arith))
+      begun_whole (nests_shut (nests_open (rest a) (arguments_ending d) (arguments_fit d (length (arguments_ending d)) (omega arith)) (omega arith)) (omega arith) (omega arith) (omega arith))
   begun_fit {a = a} (Begins.paren d) = begun_open a (begun_fit d) (omega arith)
   begun_fit {a = a} {b = b} (Begins.paren_end d) = begun_whole (reads_bracketed a d (omega arith) (length b) 0 (omega arith) (omega arith))
   begun_fit (Begins.postfix d) = begun_fit d
@@ -69,7 +70,7 @@ mutual
   begun_fit (Begins.conditional d) = begun_fit d
   begun_fit (Begins.choose d1 d2) = begun_join (reads_fit d1 [] (omega arith)) (begun_open (ending d1) (begun_fit d2) (omega arith)) (omega arith)
   begun_fit (Begins.choose_no d1 d2 d3) =
-      begun_join (fits_join (reads_fit d1 [] (omega arith)) (fits_open (ending d1) [] (reads_fit d2 [] (omega arith)) (omega arith)) (omega arith)) (begun_fit d3) (omega arith)
+      begun_join (nests_join (reads_fit d1 [] (omega arith)) (nests_open (ending d1) [] (reads_fit d2 [] (omega arith)) (omega arith)) (omega arith)) (begun_fit d3) (omega arith)
   begun_fit (Begins.assignment d) = begun_fit d
   begun_fit (Begins.assign e d1 d2) = begun_join (reads_fit d1 [] (omega arith)) (begun_open (ending d1) (begun_fit d2) (omega arith)) (omega arith)
   begun_fit (Begins.expression d) = begun_fit d

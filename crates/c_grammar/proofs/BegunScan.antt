@@ -1,17 +1,17 @@
 -- The scanner finds the nesting of what begins a program.
 use Rattle.std.proofs.Common.{◌≡◌, ℕ, suc, ◌<◌, ◌+◌, ◌-◌, true, List, [], ◌∷◌, refl, ap, ◌∙◌, arith, length}
 use Rattle.c_tree.specs.declared.stmt.Ty.{Ty}
-use Rattle.c_grammar.specs.declared.lead.Lead.TheVariants as lead
-use Rattle.c_grammar.specs.declared.part.Part.{Part as Kind}
+use Rattle.c_grammar.specs.declared.terminal.Terminal.TheVariants as terminal
+use Rattle.c_grammar.specs.declared.nonterminal.Nonterminal.{Nonterminal as Kind}
 use Rattle.c_grammar.specs.Grammar.{Tokens, Begins, BeginsArgument, BeginsArguments}
-use Rattle.c_grammar.specs.Leads.{front}
-use Rattle.c_grammar.specs.Nesting.{next, ending, arguments_ending, elements_ending, optional_ending, signature_ending}
+use Rattle.c_grammar.specs.Terminals.{lookahead, rest}
+use Rattle.c_grammar.specs.Nesting.{ending, arguments_ending, elements_ending, optional_ending, signature_ending}
 use Rattle.c_grammar.specs.BegunNesting.{begun_openers, begun_argument_openers, begun_arguments_openers, begun_length_openers, begun_elements_openers, begun_declarator_openers, begun_declarators_openers, begun_vars_openers, begun_clause_openers, begun_statement_openers, begun_items_openers, begun_parameter_openers, begun_parameters_openers, begun_signature_openers, begun_external_openers, viable_openers}
 use Rattle.c_grammar.specs.Programs.{BeginsLength, BeginsElements, BeginsDeclarator, BeginsDeclarators, BeginsVars, BeginsClause, BeginsStatement, BeginsItems, BeginsParameter, BeginsParameters, BeginsSignature, BeginsExternal, Viable}
-use Rattle.c_grammar.proofs.Basics.{room}
+use Rattle.c_grammar.proofs.ExpressionBasics.{room}
 use Rattle.c_grammar.proofs.ProgramBasics.{optional_shorter}
-use Rattle.c_grammar.proofs.Leads.{lead_binary, lead_bump, lead_assignment, lead_prefix, lead_type}
-use Rattle.c_grammar.proofs.Starts.{starting, prefix_starts, starts, starting_no_else}
+use Rattle.c_grammar.proofs.Terminals.{terminal_binary, terminal_bump, terminal_assignment, terminal_prefix, terminal_type}
+use Rattle.c_grammar.proofs.ExpressionFirstSets.{starting, prefix_starts, starts, starting_no_else}
 use Rattle.c_grammar.proofs.Scanner.{Frame, group, call, list, start, pick, test, again, first, second, third, act, branch, body, turn, block, State, fresh, operand, operated, casting, declared, head, of_test, of_clauses, at_operand, step}
 use Rattle.c_grammar.proofs.ScannedParts.{nothing, before, opened, after, close, finish, join, Start, whole, none, start_before, start_open, start_join, start_enter}
 use Rattle.c_grammar.proofs.ExpressionScan.{Free, prefix_opens, argument_part, arguments_part}
@@ -20,7 +20,7 @@ use Rattle.c_grammar.proofs.ProgramScan.{reads_from, length_part, elements_part,
 -- ---- expressions
 
 -- the first token of what begins an expression
-begun_starts : {N : Kind} {r : ℕ} {a b : Tokens} → Begins N r a b → length b < length a → starting (front a) ≡ true
+begun_starts : {N : Kind} {r : ℕ} {a b : Tokens} → Begins N r a b → length b < length a → starting (lookahead a) ≡ true
 begun_starts Begins.none h = absurd (omega arith)
 begun_starts Begins.constant h = refl
 begun_starts Begins.name h = refl
@@ -34,8 +34,8 @@ begun_starts (Begins.paren_end d) h = refl
 begun_starts (Begins.postfix d) h = begun_starts d h
 begun_starts (Begins.bump_after e d) h = starts d
 begun_starts (Begins.unary d) h = begun_starts d h
-begun_starts (Begins.bump_before {p = p} {up = up} e d) h = ap starting (lead_bump p up e)
-begun_starts (Begins.prefix {p = p} {f = f} e d) h = prefix_starts _ f (lead_prefix p f e)
+begun_starts (Begins.bump_before {p = p} {up = up} e d) h = ap starting (terminal_bump p up e)
+begun_starts (Begins.prefix {p = p} {f = f} e d) h = prefix_starts _ f (terminal_prefix p f e)
 begun_starts (Begins.cast d) h = begun_starts d h
 begun_starts Begins.cast_open h = refl
 begun_starts (Begins.cast_type e) h = refl
@@ -61,7 +61,7 @@ mutual
   begun_part (Begins.index_end d) n k f =
       whole (before refl refl (close (opened refl refl (ending d) (reads_from d (ending d) (omega arith) (suc n) (group n ∷ k) (λ j. refl))) refl refl (omega arith)))
   begun_part {a = a} (Begins.call_bare {r = r}) n k f =
-      let c = next (next a) in
+      let c = rest (rest a) in
       whole (before refl refl (close (opened refl refl c (nothing r (length c) (suc n) (operand (suc n) (call n ∷ k)) c (omega arith))) refl refl (omega arith)))
   begun_part (Begins.call d) n k f = start_before refl refl (start_open refl refl (begun_arguments_part d n k))
   begun_part (Begins.call_end d) n k f =
@@ -73,24 +73,24 @@ mutual
   begun_part (Begins.postfix d) n k f = begun_part d n k tt
   begun_part {r = r} (Begins.bump_after {m = m} {p = p} {up = up} e d) n k f =
       let y = room d in
-      whole (after (reads_from d [] (omega arith) n k tt) (ap (step (operated (n + r - m) k)) (lead_bump p up e)) (omega arith) (omega arith))
+      whole (after (reads_from d [] (omega arith) n k tt) (ap (step (operated (n + r - m) k)) (terminal_bump p up e)) (omega arith) (omega arith))
   begun_part (Begins.unary d) n k f = begun_part d n k tt
   begun_part (Begins.bump_before {p = p} {up = up} e d) n k f =
-      start_open (ap (step (operand n k)) (lead_bump p up e)) refl (begun_part d (suc n) k tt)
+      start_open (ap (step (operand n k)) (terminal_bump p up e)) refl (begun_part d (suc n) k tt)
   begun_part (Begins.prefix {p = p} {f = g} e d) n k f =
-      start_open (prefix_opens _ g n k (lead_prefix p g e)) refl (begun_part d (suc n) k tt)
+      start_open (prefix_opens _ g n k (terminal_prefix p g e)) refl (begun_part d (suc n) k tt)
   begun_part (Begins.cast d) n k f = begun_part d n k tt
   begun_part {b = b} (Begins.cast_open {r = r}) n k f = start_open refl refl (none r (suc n) (operand (suc n) (group n ∷ k)) b)
   begun_part {b = b} (Begins.cast_type {r = r} {k = w} {ty = ty} e) n k f =
-      start_open refl refl (start_before (ap (step (operand (suc n) (group n ∷ k))) (lead_type w ty e)) refl (none r (suc n) (casting (suc n) k) b))
+      start_open refl refl (start_before (ap (step (operand (suc n) (group n ∷ k))) (terminal_type w ty e)) refl (none r (suc n) (casting (suc n) k) b))
   begun_part (Begins.cast_to {k = w} {ty = ty} e d) n k f =
-      start_open refl refl (start_before (ap (step (operand (suc n) (group n ∷ k))) (lead_type w ty e)) refl (start_before refl refl (begun_part d (suc n) k tt)))
+      start_open refl refl (start_before (ap (step (operand (suc n) (group n ∷ k))) (terminal_type w ty e)) refl (start_before refl refl (begun_part d (suc n) k tt)))
   begun_part (Begins.operand d) n k f = begun_part d n k tt
   begun_part (Begins.weaker d) n k f = begun_part d n k tt
   begun_part {r = r} (Begins.binary {m = m} {p = p} {f = g} e i d1 d2) n k f =
       let y = room d1 in
       let j = n + r - suc m in
-      start_join (reads_from d1 [] (omega arith) n k tt) (start_open (ap (step (operated j k)) (lead_binary p g e)) refl (begun_part d2 (suc j) k tt)) (omega arith)
+      start_join (reads_from d1 [] (omega arith) n k tt) (start_open (ap (step (operated j k)) (terminal_binary p g e)) refl (begun_part d2 (suc j) k tt)) (omega arith)
   begun_part (Begins.conditional d) n k f = begun_part d n k tt
   begun_part {r = r} (Begins.choose {m = m} d1 d2) n k f =
       let y = room d1 in
@@ -107,7 +107,7 @@ mutual
   begun_part {r = r} (Begins.assign {m = m} {p = p} {f = g} e d1 d2) n k f =
       let y = room d1 in
       let j = n + r - suc m in
-      start_join (reads_from d1 [] (omega arith) n k tt) (start_open (ap (step (operated j k)) (lead_assignment p g e)) refl (begun_part d2 (suc j) k tt)) (omega arith)
+      start_join (reads_from d1 [] (omega arith) n k tt) (start_open (ap (step (operated j k)) (terminal_assignment p g e)) refl (begun_part d2 (suc j) k tt)) (omega arith)
   begun_part (Begins.expression d) n k f = begun_part d n k tt
   begun_part {r = r} (Begins.comma {m = m} d1 d2) n k f =
       let y = room d1 in
@@ -166,10 +166,10 @@ begun_declarators_part (BeginsDeclarators.more d e) n k =
     start_join (after p.part p.comma refl (omega arith)) (begun_declarators_part e n k) refl
 
 begun_vars_part : {r : ℕ} {a b : Tokens} (d : BeginsVars r a b) (σ : State) (n : ℕ) (k : List Frame)
-    → ((t : Ty) → step σ (lead.Type t) ≡ declared n k) → Start r n σ a b (begun_vars_openers d)
+    → ((t : Ty) → step σ (terminal.Type t) ≡ declared n k) → Start r n σ a b (begun_vars_openers d)
 begun_vars_part {r = r} {a = a} BeginsVars.none σ n k o = none r n σ a
 begun_vars_part (BeginsVars.vars {k = w} {ty = ty} i d) σ n k o =
-    start_before (ap (step σ) (lead_type w ty i) ∙ o ty) refl (begun_declarators_part d n k)
+    start_before (ap (step σ) (terminal_type w ty i) ∙ o ty) refl (begun_declarators_part d n k)
 begun_vars_part (BeginsVars.end d) σ n k o = whole (vars_part d σ n k o 0 (omega arith))
 
 -- ---- statements
@@ -185,55 +185,55 @@ mutual
       → Opens σ n k → Start r n σ a b (begun_statement_openers d)
   begun_statement_part {a = a} {b = b} (BeginsStatement.act d) σ n k g = start_enter σ (begun_part d n (act ∷ k) (λ j. refl)) same
     where
-      same : length b < length a → step σ (front a) ≡ at_operand (front a) n (act ∷ k)
-      same h = let s = begun_starts d h in g (front a) (starting_no_else (front a) s) ∙ fresh_operand (front a) n k s
+      same : length b < length a → step σ (lookahead a) ≡ at_operand (lookahead a) n (act ∷ k)
+      same h = let s = begun_starts d h in g (lookahead a) (starting_no_else (lookahead a) s) ∙ fresh_operand (lookahead a) n k s
   begun_statement_part (BeginsStatement.block d) σ n k g =
-      start_open (g lead.OpenBrace refl) refl (begun_items_part d (fresh (suc n) (block n ∷ k)) n k (λ l i. refl))
+      start_open (g terminal.OpenBrace refl) refl (begun_items_part d (fresh (suc n) (block n ∷ k)) n k (λ l i. refl))
   begun_statement_part {b = b} (BeginsStatement.if_word {r = r}) σ n k g =
-      start_open (g lead.If refl) refl (none r (suc n) (head of_test (suc n) (branch n ∷ k)) b)
+      start_open (g terminal.If refl) refl (none r (suc n) (head of_test (suc n) (branch n ∷ k)) b)
   begun_statement_part (BeginsStatement.if_test d) σ n k g =
-      start_open (g lead.If refl) refl (start_open refl refl (begun_part d (suc (suc n)) (test (suc n) ∷ branch n ∷ k) (λ j. refl)))
+      start_open (g terminal.If refl) refl (start_open refl refl (begun_part d (suc (suc n)) (test (suc n) ∷ branch n ∷ k) (λ j. refl)))
   begun_statement_part (BeginsStatement.if_then d e) σ n k g =
-      start_open (g lead.If refl) refl
+      start_open (g terminal.If refl) refl
       (start_join (test_part refl refl d 0 (omega arith)) (begun_statement_part e (fresh (suc n) (branch n ∷ k)) (suc n) (branch n ∷ k) (λ l i. refl)) refl)
   begun_statement_part (BeginsStatement.if_else d e f) σ n k g =
       let p = statement_part e (fresh (suc n) (branch n ∷ k)) (suc n) (branch n ∷ k) (λ l i. refl) 0 (omega arith) in
-      let s = after p.part (p.goes_on lead.Else (λ j. absurd (cc (j)))) refl (omega arith) in
-      start_open (g lead.If refl) refl
+      let s = after p.part (p.goes_on terminal.Else (λ j. absurd (cc (j)))) refl (omega arith) in
+      start_open (g terminal.If refl) refl
       (start_join (join (test_part refl refl d 0 (omega arith)) s refl) (begun_statement_part f (fresh (suc n) (body n ∷ k)) (suc n) (body n ∷ k) (λ l i. refl)) refl)
   begun_statement_part {b = b} (BeginsStatement.while_word {r = r}) σ n k g =
-      start_open (g lead.While refl) refl (none r (suc n) (head of_test (suc n) (body n ∷ k)) b)
+      start_open (g terminal.While refl) refl (none r (suc n) (head of_test (suc n) (body n ∷ k)) b)
   begun_statement_part (BeginsStatement.while_test d) σ n k g =
-      start_open (g lead.While refl) refl (start_open refl refl (begun_part d (suc (suc n)) (test (suc n) ∷ body n ∷ k) (λ j. refl)))
+      start_open (g terminal.While refl) refl (start_open refl refl (begun_part d (suc (suc n)) (test (suc n) ∷ body n ∷ k) (λ j. refl)))
   begun_statement_part (BeginsStatement.while d e) σ n k g =
-      start_open (g lead.While refl) refl
+      start_open (g terminal.While refl) refl
       (start_join (test_part refl refl d 0 (omega arith)) (begun_statement_part e (fresh (suc n) (body n ∷ k)) (suc n) (body n ∷ k) (λ l i. refl)) refl)
   begun_statement_part (BeginsStatement.do_body d) σ n k g =
-      start_open (g lead.Do refl) refl (begun_statement_part d (fresh (suc n) (turn n ∷ k)) (suc n) (turn n ∷ k) (λ l i. refl))
+      start_open (g terminal.Do refl) refl (begun_statement_part d (fresh (suc n) (turn n ∷ k)) (suc n) (turn n ∷ k) (λ l i. refl))
   begun_statement_part (BeginsStatement.do_word d) σ n k g =
       let p = statement_part d (fresh (suc n) (turn n ∷ k)) (suc n) (turn n ∷ k) (λ l i. refl) 0 (omega arith) in
-      start_open (g lead.Do refl) refl (whole (after p.part (p.goes_on lead.While (λ j. refl)) refl (omega arith)))
+      start_open (g terminal.Do refl) refl (whole (after p.part (p.goes_on terminal.While (λ j. refl)) refl (omega arith)))
   begun_statement_part (BeginsStatement.do_test d e) σ n k g =
       let p = statement_part d (fresh (suc n) (turn n ∷ k)) (suc n) (turn n ∷ k) (λ l i. refl) 0 (omega arith) in
       let t = begun_part e (suc (suc n)) (again (suc n) ∷ k) (λ j. refl) in
-      start_open (g lead.Do refl) refl (start_join p.part (start_before (p.goes_on lead.While (λ j. refl)) refl (start_open refl refl t)) refl)
+      start_open (g terminal.Do refl) refl (start_join p.part (start_before (p.goes_on terminal.While (λ j. refl)) refl (start_open refl refl t)) refl)
   begun_statement_part (BeginsStatement.do_close d e) σ n k g =
       let p = statement_part d (fresh (suc n) (turn n ∷ k)) (suc n) (turn n ∷ k) (λ l i. refl) 0 (omega arith) in
       let t = reads_from e (ending e) (omega arith) (suc (suc n)) (again (suc n) ∷ k) (λ j. refl) in
-      let q = before (p.goes_on lead.While (λ j. refl)) refl (close (opened refl refl (ending e) t) refl refl (omega arith)) in
-      start_open (g lead.Do refl) refl (whole (join p.part q refl))
+      let q = before (p.goes_on terminal.While (λ j. refl)) refl (close (opened refl refl (ending e) t) refl refl (omega arith)) in
+      start_open (g terminal.Do refl) refl (whole (join p.part q refl))
   begun_statement_part {b = b} (BeginsStatement.for_word {r = r}) σ n k g =
-      start_open (g lead.For refl) refl (none r (suc n) (head of_clauses (suc n) (body n ∷ k)) b)
+      start_open (g terminal.For refl) refl (none r (suc n) (head of_clauses (suc n) (body n ∷ k)) b)
   begun_statement_part (BeginsStatement.for_first d) σ n k g =
-      start_open (g lead.For refl) refl (start_open refl refl (begun_clause_part d (suc n) (body n ∷ k)))
+      start_open (g terminal.For refl) refl (start_open refl refl (begun_clause_part d (suc n) (body n ∷ k)))
   begun_statement_part (BeginsStatement.for_test d e) σ n k g =
       let i = clause_part d (suc n) (body n ∷ k) 0 (omega arith) in
-      start_open (g lead.For refl) refl (start_open refl refl (start_join i (begun_part e (suc (suc n)) (second (suc n) ∷ body n ∷ k) (λ j. refl)) refl))
+      start_open (g terminal.For refl) refl (start_open refl refl (start_join i (begun_part e (suc (suc n)) (second (suc n) ∷ body n ∷ k) (λ j. refl)) refl))
   begun_statement_part (BeginsStatement.for_step d e f) σ n k g =
       let i = clause_part d (suc n) (body n ∷ k) 0 (omega arith) in
       let p = optional_part e (optional_ending e) (omega arith) (suc (suc n)) (second (suc n) ∷ body n ∷ k) (λ j. refl) in
       let q = begun_part f (suc (suc n)) (third (suc n) ∷ body n ∷ k) (λ j. refl) in
-      start_open (g lead.For refl) refl (start_open refl refl (start_join (join i (close p.part p.semicolon refl (omega arith)) refl) q refl))
+      start_open (g terminal.For refl) refl (start_open refl refl (start_join (join i (close p.part p.semicolon refl (omega arith)) refl) q refl))
   begun_statement_part (BeginsStatement.for d e f v) σ n k g =
       let x = optional_shorter e in
       let y = optional_shorter f in
@@ -242,20 +242,20 @@ mutual
       let p = optional_part e (optional_ending e) (omega arith) (suc (suc n)) (second (suc n) ∷ body n ∷ k) (λ j. refl) in
       let t = optional_part f c (omega arith) (suc (suc n)) (third (suc n) ∷ body n ∷ k) (λ j. refl) in
       let s = close (opened refl refl c (join (join i (close p.part p.semicolon refl (omega arith)) refl) t.part refl)) t.paren refl (omega arith) in
-      start_open (g lead.For refl) refl (start_join s (begun_statement_part v (fresh (suc n) (body n ∷ k)) (suc n) (body n ∷ k) (λ l j. refl)) refl)
-  begun_statement_part (BeginsStatement.give d) σ n k g = start_before (g lead.Return refl) refl (begun_part d n (act ∷ k) (λ j. refl))
+      start_open (g terminal.For refl) refl (start_join s (begun_statement_part v (fresh (suc n) (body n ∷ k)) (suc n) (body n ∷ k) (λ l j. refl)) refl)
+  begun_statement_part (BeginsStatement.give d) σ n k g = start_before (g terminal.Return refl) refl (begun_part d n (act ∷ k) (λ j. refl))
   begun_statement_part {r = r} {b = b} BeginsStatement.break σ n k g =
-      start_before (g lead.Break refl) refl (none r n (operated n (act ∷ k)) b)
+      start_before (g terminal.Break refl) refl (none r n (operated n (act ∷ k)) b)
   begun_statement_part {r = r} {b = b} BeginsStatement.continue σ n k g =
-      start_before (g lead.Continue refl) refl (none r n (operated n (act ∷ k)) b)
+      start_before (g terminal.Continue refl) refl (none r n (operated n (act ∷ k)) b)
   begun_statement_part (BeginsStatement.end d) σ n k g = let p = statement_part d σ n k g 0 (omega arith) in whole p.part
 
   begun_items_part : {r : ℕ} {a b : Tokens} (d : BeginsItems r a b) (σ : State) (n : ℕ) (k : List Frame)
       → Opens σ (suc n) (block n ∷ k) → Start r (suc n) σ a b (begun_items_openers d)
-  begun_items_part (BeginsItems.vars d) σ n k g = begun_vars_part d σ (suc n) (block n ∷ k) (λ t. g (lead.Type t) refl)
+  begun_items_part (BeginsItems.vars d) σ n k g = begun_vars_part d σ (suc n) (block n ∷ k) (λ t. g (terminal.Type t) refl)
   begun_items_part (BeginsItems.statement d) σ n k g = begun_statement_part d σ (suc n) (block n ∷ k) g
   begun_items_part (BeginsItems.more_vars d e) σ n k g =
-      let p = vars_part d σ (suc n) (block n ∷ k) (λ t. g (lead.Type t) refl) 0 (omega arith) in
+      let p = vars_part d σ (suc n) (block n ∷ k) (λ t. g (terminal.Type t) refl) 0 (omega arith) in
       start_join p (begun_items_part e (fresh (suc n) (block n ∷ k)) n k (λ l i. refl)) refl
   begun_items_part (BeginsItems.more_statement d e) σ n k g =
       let p = statement_part d σ (suc n) (block n ∷ k) g 0 (omega arith) in
@@ -267,9 +267,9 @@ begun_parameter_part : {r : ℕ} {a b : Tokens} (d : BeginsParameter r a b) (n :
     → Start r n (declared n k) a b (begun_parameter_openers d)
 begun_parameter_part {r = r} {a = a} BeginsParameter.none n k = none r n (declared n k) a
 begun_parameter_part {r = r} {b = b} (BeginsParameter.type {k = w} {ty = ty} i) n k =
-    start_before (ap (step (declared n k)) (lead_type w ty i)) refl (none r n (declared n k) b)
+    start_before (ap (step (declared n k)) (terminal_type w ty i)) refl (none r n (declared n k) b)
 begun_parameter_part (BeginsParameter.array {k = w} {ty = ty} i d) n k =
-    start_before (ap (step (declared n k)) (lead_type w ty i)) refl (start_before refl refl (begun_length_part d n k))
+    start_before (ap (step (declared n k)) (terminal_type w ty i)) refl (start_before refl refl (begun_length_part d n k))
 
 begun_parameters_part : {r : ℕ} {a b : Tokens} (d : BeginsParameters r a b) (n : ℕ) (k : List Frame)
     → Start r n (declared n k) a b (begun_parameters_openers d)
@@ -285,7 +285,7 @@ begun_signature_part (BeginsSignature.parameters d) n k = begun_parameters_part 
 begun_external_part : {r : ℕ} {a b : Tokens} (d : BeginsExternal r a b) (σ : State) → Opens σ 0 []
     → Start r 0 σ a b (begun_external_openers d)
 begun_external_part {r = r} {a = a} BeginsExternal.none σ g = none r 0 σ a
-begun_external_part (BeginsExternal.vars d) σ g = begun_vars_part d σ 0 [] (λ t. g (lead.Type t) refl)
+begun_external_part (BeginsExternal.vars d) σ g = begun_vars_part d σ 0 [] (λ t. g (terminal.Type t) refl)
 begun_external_part {r = r} {b = b} (BeginsExternal.result {k = w} {ret = ret} i) σ g =
     start_before (result_opens w ret σ g i) refl (none r 0 (declared 0 []) b)
 begun_external_part {r = r} {b = b} (BeginsExternal.name {k = w} {ret = ret} i) σ g =

@@ -7,32 +7,32 @@ use Rattle.c_tree.specs.declared.place.Span.{Span}
 use Rattle.c_tree.specs.declared.stmt.Shape.TheVariants.{Array}
 use Rattle.c_tree.specs.Tree as tree
 use Rattle.c_tree.specs.Tree.{Tree, Variable, First}
-use Rattle.c_grammar.specs.declared.lead.Lead.{Lead}
-use Rattle.c_grammar.specs.declared.lead.Lead.TheVariants as lead
-use Rattle.c_grammar.specs.declared.part.Part.{Part}
-use Rattle.c_grammar.specs.declared.part.Part.TheVariants.{Expression, Assignment}
+use Rattle.c_grammar.specs.declared.terminal.Terminal.{Terminal}
+use Rattle.c_grammar.specs.declared.terminal.Terminal.TheVariants as terminal
+use Rattle.c_grammar.specs.declared.nonterminal.Nonterminal.{Nonterminal}
+use Rattle.c_grammar.specs.declared.nonterminal.Nonterminal.TheVariants.{Expression, Assignment}
 use Rattle.c_grammar.specs.Grammar.{Tokens, over, Reads, Begins}
-use Rattle.c_grammar.specs.Leads.{front, is_constant, is_close_paren, is_open_bracket, is_close_brace, is_semicolon, is_assign, never}
+use Rattle.c_grammar.specs.Terminals.{lookahead, is_constant, is_close_paren, is_open_bracket, is_close_brace, is_semicolon, is_assign, never}
 use Rattle.c_grammar.specs.Programs.{variable, Length, Elements, Declarator, Declarators, Vars, Clause, Optional, BeginsLength, BeginsElements, BeginsDeclarator, BeginsDeclarators, BeginsVars, BeginsClause}
 use Rattle.c_grammar.specs.ProgramDescent.{value, bound_by, bracketed, elements, list_by, array, scalar_by, declared_by, declarator, declarators, vars, tested, optional_by, optional, first_act, clause_by, clause, clauses}
-use Rattle.c_grammar.proofs.Basics.{reads_lift, reads_begun}
+use Rattle.c_grammar.proofs.ExpressionBasics.{reads_lift, reads_begun}
 use Rattle.c_grammar.proofs.ProgramBasics.{length_lift, elements_begun, declarator_lift, declarators_begun, clause_lift, optional_lift, optional_begun}
-use Rattle.c_grammar.proofs.Fits.{Fits, Kept, part_fits, kept_fits, front_is, token_fits, name_opens, constant_opens, type_opens, enters, close_paren, open_paren, open_bracket, close_bracket, open_brace, close_brace, semicolon, assign}
+use Rattle.c_grammar.proofs.Fits.{Fits, Kept, part_fits, kept_fits, lookahead_is, token_fits, name_opens, constant_opens, type_opens, enters, close_paren, open_paren, open_bracket, close_bracket, open_brace, close_brace, semicolon, assign}
 use Rattle.c_grammar.proofs.ListFits.{Listing, listed_fits}
-use Rattle.c_grammar.proofs.Sound.{run_ok}
+use Rattle.c_grammar.proofs.ExpressionSound.{run_ok}
 
--- an expression, whatever the room behind it
-pub record Valued (N : Part) (r : ℕ) (a : Tokens) (t : Tree) (b : Tokens) : Type 0 where
+-- an expression, whatever the room after it
+pub record Valued (N : Nonterminal) (r : ℕ) (a : Tokens) (t : Tree) (b : Tokens) : Type 0 where
   pub left : ℕ
   pub reads : Reads N r a left b t
 
-pub value_ok : (N : Part) (r : ℕ) (a : Tokens) → Fits (Begins N r a) (Begins N (suc r) a) (Kept r (Valued N r a)) (value N r a)
+pub value_ok : (N : Nonterminal) (r : ℕ) (a : Tokens) → Fits (Begins N r a) (Begins N (suc r) a) (Kept r (Valued N r a)) (value N r a)
 value_ok N r a = part_fits (run_ok (suc r) N r a (omega arith)) (λ b v. v) (λ b v. v)
     (λ t m b d. Fits.finds (record { same = refl; is = record { left = m; reads = d.reads } }))
 
 -- ---- declarations
 
--- what may stand between the brackets behind an array's name
+-- what may stand between the brackets after an array's name
 data Bound : Tokens → Option ℤ → Tokens → Type 0 where
   bare : {a : Tokens} → Bound a None a
   constant : {a : Tokens} {n : ℤ} {w : List ℕ} {s : Span} → Bound ((kind.Const n w, s) ∷ a) (Some n) a
@@ -61,7 +61,7 @@ pub bracketed_ok : (r : ℕ) (o : Span) (a : Tokens)
     (bracketed r ((kind.Punct mark.OpenBracket, o) ∷ a))
 bracketed_ok zero o a = Fits.sinks BeginsLength.none BeginsLength.bracket
 bracketed_ok (suc r) o a =
-    part_fits (bound_by_ok (is_constant (front a)) r r o a) (λ b v. v) (λ b v. v)
+    part_fits (bound_by_ok (is_constant (lookahead a)) r r o a) (λ b v. v) (λ b v. v)
     (λ n m b d. token_fits close_bracket (λ z. Bound a n z) _ (suc r) b (bound_begins d.is) d.is (λ e c g. Fits.finds (record { same = refl; is = bound_length g })))
 
 -- an initialiser list with its braces
@@ -108,12 +108,12 @@ list_declares : {r : ℕ} {a b c : Tokens} {w : List ℕ} {s e o : Span} {n : Op
     → Declarator r ((kind.Name w, s) ∷ a) c (variable w (over s e) (Array n) (tree.list_start ts))
 list_declares d (Braced.braces x) = Declarator.array_list d x
 
-list_by_ok : (x : Bool) (w : List ℕ) (s : Span) (r : ℕ) (a : Tokens) (n : Option ℤ × Span) (b : Tokens) → is_assign (front b) ≡ x → Length r a b n.0 n.1
+list_by_ok : (x : Bool) (w : List ℕ) (s : Span) (r : ℕ) (a : Tokens) (n : Option ℤ × Span) (b : Tokens) → is_assign (lookahead b) ≡ x → Length r a b n.0 n.1
     → Fits (BeginsDeclarator r ((kind.Name w, s) ∷ a)) (BeginsDeclarator (suc r) ((kind.Name w, s) ∷ a)) (Kept r (λ v c. Declarator r ((kind.Name w, s) ∷ a) c v))
     (list_by x (w, s) n r b)
 list_by_ok false w s r a n b e d = Fits.finds (record { same = refl; is = Declarator.array d })
 list_by_ok true w s r a n b e d =
-    front_is assign (λ z. Length r a z n.0 n.1 → Fits (BeginsDeclarator r ((kind.Name w, s) ∷ a)) (BeginsDeclarator (suc r) ((kind.Name w, s) ∷ a))
+    lookahead_is assign (λ z. Length r a z n.0 n.1 → Fits (BeginsDeclarator r ((kind.Name w, s) ∷ a)) (BeginsDeclarator (suc r) ((kind.Name w, s) ∷ a))
     (Kept r (λ v c. Declarator r ((kind.Name w, s) ∷ a) c v))
     (list_by true (w, s) n r z)) b e
     (λ o c g. kept_fits _ (elements_ok r c) (λ x v. list_begins g v) (λ x v. list_begins (length_lift g) v)
@@ -125,31 +125,31 @@ array_ok : (w : List ℕ) (s : Span) (r : ℕ) (o : Span) (a : Tokens)
     (Kept r (λ v c. Declarator r ((kind.Name w, s) ∷ (kind.Punct mark.OpenBracket, o) ∷ a) c v)) (array (w, s) r ((kind.Punct mark.OpenBracket, o) ∷ a))
 array_ok w s r o a =
     kept_fits _ (bracketed_ok r o a) (λ b v. BeginsDeclarator.array v) (λ b v. BeginsDeclarator.array v)
-    (λ n b d. list_by_ok (is_assign (front b)) w s r ((kind.Punct mark.OpenBracket, o) ∷ a) n b refl d)
+    (λ n b d. list_by_ok (is_assign (lookahead b)) w s r ((kind.Punct mark.OpenBracket, o) ∷ a) n b refl d)
 
-scalar_by_ok : (x : Bool) (w : List ℕ) (s : Span) (r : ℕ) (a : Tokens) → is_assign (front a) ≡ x
+scalar_by_ok : (x : Bool) (w : List ℕ) (s : Span) (r : ℕ) (a : Tokens) → is_assign (lookahead a) ≡ x
     → Fits (BeginsDeclarator r ((kind.Name w, s) ∷ a)) (BeginsDeclarator (suc r) ((kind.Name w, s) ∷ a)) (Kept r (λ v c. Declarator r ((kind.Name w, s) ∷ a) c v))
     (scalar_by x (w, s) r a)
 scalar_by_ok false w s r a e = Fits.finds (record { same = refl; is = Declarator.scalar })
 scalar_by_ok true w s r a e =
-    front_is assign (λ z. Fits (BeginsDeclarator r ((kind.Name w, s) ∷ z)) (BeginsDeclarator (suc r) ((kind.Name w, s) ∷ z))
+    lookahead_is assign (λ z. Fits (BeginsDeclarator r ((kind.Name w, s) ∷ z)) (BeginsDeclarator (suc r) ((kind.Name w, s) ∷ z))
     (Kept r (λ v c. Declarator r ((kind.Name w, s) ∷ z) c v)) (scalar_by true (w, s) r z)) a e
     (λ o c. kept_fits _ (value_ok Assignment r c) (λ b v. BeginsDeclarator.scalar_start v) (λ b v. BeginsDeclarator.scalar_start v)
     (λ t b d. Fits.finds (record { same = refl; is = Declarator.scalar_start d.reads })))
 
-declared_by_ok : (x : Bool) (w : List ℕ) (s : Span) (r : ℕ) (a : Tokens) → is_open_bracket (front a) ≡ x
+declared_by_ok : (x : Bool) (w : List ℕ) (s : Span) (r : ℕ) (a : Tokens) → is_open_bracket (lookahead a) ≡ x
     → Fits (BeginsDeclarator r ((kind.Name w, s) ∷ a)) (BeginsDeclarator (suc r) ((kind.Name w, s) ∷ a)) (Kept r (λ v c. Declarator r ((kind.Name w, s) ∷ a) c v))
     (declared_by x (w, s) r a)
-declared_by_ok false w s r a e = scalar_by_ok (is_assign (front a)) w s r a refl
+declared_by_ok false w s r a e = scalar_by_ok (is_assign (lookahead a)) w s r a refl
 declared_by_ok true w s r a e =
-    front_is open_bracket (λ z. Fits (BeginsDeclarator r ((kind.Name w, s) ∷ z)) (BeginsDeclarator (suc r) ((kind.Name w, s) ∷ z))
+    lookahead_is open_bracket (λ z. Fits (BeginsDeclarator r ((kind.Name w, s) ∷ z)) (BeginsDeclarator (suc r) ((kind.Name w, s) ∷ z))
     (Kept r (λ v c. Declarator r ((kind.Name w, s) ∷ z) c v)) (array (w, s) r z)) a e
     (λ o c. array_ok w s r o c)
 
 declarator_ok : (r : ℕ) (a : Tokens) → Fits (BeginsDeclarator r a) (BeginsDeclarator (suc r) a) (Kept r (λ v b. Declarator r a b v)) (declarator r a)
 declarator_ok r a =
     name_opens (BeginsDeclarator r) (BeginsDeclarator (suc r)) (λ z. Kept r (λ v b. Declarator r z b v)) _ r a BeginsDeclarator.none
-    (λ w s c. declared_by_ok (is_open_bracket (front c)) w s r c refl)
+    (λ w s c. declared_by_ok (is_open_bracket (lookahead c)) w s r c refl)
 
 declarator_lists : (r : ℕ)
     → Listing never (λ a v b. Declarator r a b v) (λ a vs b. Declarators r a b vs) (BeginsDeclarator r) (BeginsDeclarator (suc r)) (BeginsDeclarators r)
@@ -204,9 +204,9 @@ optional_by_ok true r a = Fits.finds (record { same = refl; is = Optional.absent
 optional_by_ok false r a = part_fits (value_ok Expression r a) (λ b v. v) (λ b v. v)
     (λ t m b d. Fits.finds (record { same = d.same; is = Optional.present d.is.reads }))
 
-pub optional_ok : (ends : Lead → Bool) (r : ℕ) (a : Tokens) → Fits (Begins Expression r a) (Begins Expression (suc r) a) (Kept r (λ t b. Optional r a b t))
+pub optional_ok : (ends : Terminal → Bool) (r : ℕ) (a : Tokens) → Fits (Begins Expression r a) (Begins Expression (suc r) a) (Kept r (λ t b. Optional r a b t))
     (optional ends r a)
-optional_ok ends r a = optional_by_ok (ends (front a)) r a
+optional_ok ends r a = optional_by_ok (ends (lookahead a)) r a
 
 first_act_ok : (r : ℕ) (a : Tokens) → Fits (BeginsClause r a) (BeginsClause (suc r) a) (Kept r (λ i b. Clause r a b i)) (first_act r a)
 first_act_ok r a =
@@ -214,16 +214,16 @@ first_act_ok r a =
     (λ t b d. token_fits semicolon (Valued Expression r a t) _ r b (BeginsClause.act (reads_begun d.reads)) d
     (λ e c g. Fits.finds (record { same = refl; is = Clause.act g.reads })))
 
-clause_by_ok : (l : Lead) (r : ℕ) (a : Tokens) → front a ≡ l → Fits (BeginsClause r a) (BeginsClause (suc r) a) (Kept r (λ i b. Clause r a b i)) (clause_by l r a)
-clause_by_ok lead.Semicolon r a e =
-    front_is semicolon (λ z. Fits (BeginsClause r z) (BeginsClause (suc r) z) (Kept r (λ i b. Clause r z b i)) (clause_by lead.Semicolon r z)) a (ap is_semicolon e)
+clause_by_ok : (l : Terminal) (r : ℕ) (a : Tokens) → lookahead a ≡ l → Fits (BeginsClause r a) (BeginsClause (suc r) a) (Kept r (λ i b. Clause r a b i)) (clause_by l r a)
+clause_by_ok terminal.Semicolon r a e =
+    lookahead_is semicolon (λ z. Fits (BeginsClause r z) (BeginsClause (suc r) z) (Kept r (λ i b. Clause r z b i)) (clause_by terminal.Semicolon r z)) a (ap is_semicolon e)
     (λ s c. Fits.finds (record { same = refl; is = Clause.empty }))
-clause_by_ok (lead.Type ty) r a e = part_fits (vars_ok r a) (λ b v. BeginsClause.vars v) (λ b v. BeginsClause.vars v)
+clause_by_ok (terminal.Type ty) r a e = part_fits (vars_ok r a) (λ b v. BeginsClause.vars v) (λ b v. BeginsClause.vars v)
     (λ x m b d. Fits.finds (record { same = d.same; is = Clause.vars d.is }))
 clause_by_ok _ r a e = first_act_ok r a
 
 clause_ok : (r : ℕ) (a : Tokens) → Fits (BeginsClause r a) (BeginsClause (suc r) a) (Kept r (λ i b. Clause r a b i)) (clause r a)
-clause_ok r a = clause_by_ok (front a) r a refl
+clause_ok r a = clause_by_ok (lookahead a) r a refl
 
 -- the clauses of a `for` in their parentheses
 pub data Clauses : ℕ → Tokens → First → Option Tree → Option Tree → Tokens → Type 0 where

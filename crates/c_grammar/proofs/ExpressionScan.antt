@@ -4,27 +4,27 @@ use Rattle.c_lex.specs.declared.token.TokenKind.TheVariants as kind
 use Rattle.c_lex.specs.declared.token.Punct.TheVariants as mark
 use Rattle.c_tree.specs.declared.expr.UnOp.{UnOp}
 use Rattle.c_tree.specs.Tree.{Tree}
-use Rattle.c_grammar.specs.declared.lead.Lead.{Lead}
-use Rattle.c_grammar.specs.declared.lead.Lead.TheVariants as lead
-use Rattle.c_grammar.specs.declared.part.Part.{Part as Kind}
-use Rattle.c_grammar.specs.declared.part.Part.TheVariants.{Expression}
+use Rattle.c_grammar.specs.declared.terminal.Terminal.{Terminal}
+use Rattle.c_grammar.specs.declared.terminal.Terminal.TheVariants as terminal
+use Rattle.c_grammar.specs.declared.nonterminal.Nonterminal.{Nonterminal}
+use Rattle.c_grammar.specs.declared.nonterminal.Nonterminal.TheVariants.{Expression}
 use Rattle.c_grammar.specs.Grammar.{Tokens, Given, Reads, Argument, Arguments}
-use Rattle.c_grammar.specs.Leads.{prefix_at}
+use Rattle.c_grammar.specs.Terminals.{prefix_at}
 use Rattle.c_grammar.specs.Nesting.{Opener, ending, arguments_ending, openers, argument_openers, arguments_openers}
-use Rattle.c_grammar.proofs.Basics.{room, reads_shorter, arguments_shorter}
-use Rattle.c_grammar.proofs.Leads.{lead_binary, lead_bump, lead_assignment, lead_prefix, lead_type}
+use Rattle.c_grammar.proofs.ExpressionBasics.{room, reads_shorter, arguments_shorter}
+use Rattle.c_grammar.proofs.Terminals.{terminal_binary, terminal_bump, terminal_assignment, terminal_prefix, terminal_type}
 use Rattle.c_grammar.proofs.Scanner.{Frame, operand, operated, group, call, pick, step, by_comma, at_operand}
 use Rattle.c_grammar.proofs.ScannedParts.{Part, nothing, before, opened, after, close, finish, join, at}
 
 -- in an expression a comma is an operator
-abbrev pub Free : Kind → List Frame → Type 0
+abbrev pub Free : Nonterminal → List Frame → Type 0
 Free Expression k = (n : ℕ) → by_comma k n ≡ operand (suc n) k
 Free _ k = Unit {0}
 
-pub prefix_opens : (l : Lead) (f : UnOp) (n : ℕ) (k : List Frame) → prefix_at l ≡ Some f
+pub prefix_opens : (l : Terminal) (f : UnOp) (n : ℕ) (k : List Frame) → prefix_at l ≡ Some f
     → at_operand l n k ≡ operand (suc n) k
-prefix_opens (lead.Prefix g) f n k e = refl
-prefix_opens (lead.Binary g) f n k e = refl
+prefix_opens (terminal.Prefix g) f n k e = refl
+prefix_opens (terminal.Binary g) f n k e = refl
 prefix_opens _ f n k e = absurd (cc (e))
 
 -- ---- what is read
@@ -35,7 +35,7 @@ pub record Passed (r z n : ℕ) (k : List Frame) (a b : Tokens) (l : List Opener
   pub part : Part r r z n (operand n k) a (operated until k) b l
 
 mutual
-  pub reads_part : {N : Kind} {r m : ℕ} {a b : Tokens} {t : Tree} (d : Reads N r a m b t) (end : Tokens)
+  pub reads_part : {N : Nonterminal} {r m : ℕ} {a b : Tokens} {t : Tree} (d : Reads N r a m b t) (end : Tokens)
       → length end ≤ length b → (n i : ℕ) → i + m ≡ n + r → (k : List Frame) → Free N k
       → Part r m (length end) n (operand n k) a (operated i k) b (openers d end)
   reads_part {r = r} {b = b} Reads.constant end h n i x k f =
@@ -59,16 +59,16 @@ mutual
       at (ap (λ j. operated j k) (omega arith)) (close (opened refl refl (ending d) p) refl refl h)
   reads_part (Reads.postfix d) end h n i x k f = reads_part d end h n i x k tt
   reads_part (Reads.bump_after {p = p} {up = up} e d) end h n i x k f =
-      after (reads_part d end (omega arith) n i x k tt) (ap (step (operated i k)) (lead_bump p up e)) x h
+      after (reads_part d end (omega arith) n i x k tt) (ap (step (operated i k)) (terminal_bump p up e)) x h
   reads_part (Reads.unary d) end h n i x k f = reads_part d end h n i x k tt
   reads_part (Reads.bump_before {p = p} {up = up} e d) end h n i x k f =
-      opened (ap (step (operand n k)) (lead_bump p up e)) refl end (reads_part d end h (suc n) i (omega arith) k tt)
+      opened (ap (step (operand n k)) (terminal_bump p up e)) refl end (reads_part d end h (suc n) i (omega arith) k tt)
   reads_part (Reads.prefix {p = p} {f = g} e d) end h n i x k f =
-      opened (prefix_opens _ g n k (lead_prefix p g e)) refl end (reads_part d end h (suc n) i (omega arith) k tt)
+      opened (prefix_opens _ g n k (terminal_prefix p g e)) refl end (reads_part d end h (suc n) i (omega arith) k tt)
   reads_part (Reads.cast d) end h n i x k f = reads_part d end h n i x k tt
   reads_part (Reads.cast_to {k = w} {ty = ty} e d) end h n i x k f =
       opened refl refl end
-      (before (ap (step (operand (suc n) (group n ∷ k))) (lead_type w ty e)) refl (before refl refl (reads_part d end h (suc n) i (omega arith) k tt)))
+      (before (ap (step (operand (suc n) (group n ∷ k))) (terminal_type w ty e)) refl (before refl refl (reads_part d end h (suc n) i (omega arith) k tt)))
   reads_part (Reads.operand d) end h n i x k f = reads_part d end h n i x k tt
   reads_part (Reads.weaker d) end h n i x k f = reads_part d end h n i x k tt
   reads_part {r = r} (Reads.binary {m = m} {p = p} {f = g} e q d1 d2) end h n i x k f =
@@ -76,7 +76,7 @@ mutual
       let z = reads_shorter d2 in
       let j = n + r - suc m in
       join (reads_part d1 end (omega arith) n j (omega arith) k tt)
-      (opened (ap (step (operated j k)) (lead_binary p g e)) refl end (reads_part d2 end h (suc j) i (omega arith) k tt)) (omega arith)
+      (opened (ap (step (operated j k)) (terminal_binary p g e)) refl end (reads_part d2 end h (suc j) i (omega arith) k tt)) (omega arith)
   reads_part (Reads.conditional d) end h n i x k f = reads_part d end h n i x k tt
   reads_part {r = r} (Reads.choose {m = m} {n = o} d1 d2 d3) end h n i x k f =
       let y = room d1 in
@@ -95,7 +95,7 @@ mutual
       let z = reads_shorter d2 in
       let j = n + r - suc m in
       join (reads_part d1 end (omega arith) n j (omega arith) k tt)
-      (opened (ap (step (operated j k)) (lead_assignment p g e)) refl end (reads_part d2 end h (suc j) i (omega arith) k tt)) (omega arith)
+      (opened (ap (step (operated j k)) (terminal_assignment p g e)) refl end (reads_part d2 end h (suc j) i (omega arith) k tt)) (omega arith)
   reads_part (Reads.expression d) end h n i x k f = reads_part d end h n i x k tt
   reads_part {r = r} (Reads.comma {m = m} d1 d2) end h n i x k f =
       let y = room d1 in

@@ -7,22 +7,22 @@ use Rattle.c_lex.specs.declared.token.Keyword.TheVariants as key
 use Rattle.c_lex.specs.declared.token.Punct.TheVariants as mark
 use Rattle.c_tree.specs.declared.place.Span.{Span}
 use Rattle.c_tree.specs.declared.stmt.Ty.{Ty}
-use Rattle.c_grammar.specs.declared.lead.Lead.{Lead}
-use Rattle.c_grammar.specs.declared.lead.Lead.TheVariants as lead
+use Rattle.c_grammar.specs.declared.terminal.Terminal.{Terminal}
+use Rattle.c_grammar.specs.declared.terminal.Terminal.TheVariants as terminal
 use Rattle.c_grammar.specs.Operators.{type_word}
 use Rattle.c_grammar.specs.Grammar.{Tokens}
-use Rattle.c_grammar.specs.Leads.{lead_of, front, is_void, is_else, is_while, is_open_paren, is_close_paren, is_open_bracket, is_close_bracket, is_open_brace, is_close_brace, is_semicolon, is_comma, is_question, is_colon, is_assign, type_at}
+use Rattle.c_grammar.specs.Terminals.{terminal_of, lookahead, is_void, is_else, is_while, is_open_paren, is_close_paren, is_open_bracket, is_close_bracket, is_open_brace, is_close_brace, is_semicolon, is_comma, is_question, is_colon, is_assign, type_at}
 use Rattle.c_grammar.specs.Descent.{Reading, found, unexpected, too_deep, Reader, and_then, expected_by, expected, entered_by, entered, name, constant, text, type_by, type}
-use Rattle.c_grammar.proofs.Leads.{void_is, else_is, while_is, open_paren_is, close_paren_is, open_bracket_is, close_bracket_is, open_brace_is, close_brace_is, semicolon_is, comma_is, question_is, colon_is, assign_is, type_is}
+use Rattle.c_grammar.proofs.Terminals.{void_is, else_is, while_is, open_paren_is, close_paren_is, open_bracket_is, close_bracket_is, open_brace_is, close_brace_is, semicolon_is, comma_is, question_is, colon_is, assign_is, type_is}
 
 -- What is found meets F; where a token isn't expected, V holds of the tokens from it on; and where it is nested too deep, V holds of
--- them too, and W, which speaks of one more room, holds of the tokens behind it.
+-- them too, and W, which speaks of one more room, holds of the tokens after it.
 pub data Fits {A : Type 0} (V W : Tokens → Type 0) (F : A → ℕ → Tokens → Type 0) : Reading A → Type 0 where
   finds : {x : A} {m : ℕ} {b : Tokens} → F x m b → Fits V W F (found x m b)
   stops : {b : Tokens} → V b → Fits V W F (unexpected b)
   sinks : {x : TokenKind × Span} {b : Tokens} → V (x ∷ b) → W b → Fits V W F (too_deep (x ∷ b))
 
--- what is found with that room behind it
+-- what is found with that room after it
 pub record Kept {A : Type 0} (r : ℕ) (F : A → Tokens → Type 0) (x : A) (m : ℕ) (b : Tokens) : Type 0 where
   pub same : m ≡ r
   pub is : F x b
@@ -51,9 +51,9 @@ as_fits (Fits.sinks {x} {b} h i) v w g = Fits.sinks (v (x ∷ b) h) (w b i)
 -- ---- tokens of one kind
 
 -- The test admits tokens of the kind, and nothing else.
-pub record Only (is : Lead → Bool) (K : TokenKind) : Type 0 where
-  pub only : (k : TokenKind) → is (lead_of k) ≡ true → k ≡ K
-  pub end : is lead.End ≡ false
+pub record Only (is : Terminal → Bool) (K : TokenKind) : Type 0 where
+  pub only : (k : TokenKind) → is (terminal_of k) ≡ true → k ≡ K
+  pub end : is terminal.End ≡ false
 
 pub void_word : Only is_void (kind.Word key.Void)
 void_word = record { only = void_is; end = refl }
@@ -98,33 +98,33 @@ pub assign : Only is_assign (kind.Punct mark.Assign)
 assign = record { only = assign_is; end = refl }
 
 -- where the test admits the next token, it is one of the kind
-pub front_is : {is : Lead → Bool} {K : TokenKind} → Only is K → (M : Tokens → Type 0) (a : Tokens) → is (front a) ≡ true
+pub lookahead_is : {is : Terminal → Bool} {K : TokenKind} → Only is K → (M : Tokens → Type 0) (a : Tokens) → is (lookahead a) ≡ true
     → ((s : Span) (c : Tokens) → M ((K, s) ∷ c)) → M a
-front_is y M [] e g = let x = y.end in absurd (cc (x, e))
-front_is y M ((k, s) ∷ a) e g = subst (λ z. M ((z, s) ∷ a)) (sym (y.only k e)) (g s a)
+lookahead_is y M [] e g = let x = y.end in absurd (cc (x, e))
+lookahead_is y M ((k, s) ∷ a) e g = subst (λ z. M ((z, s) ∷ a)) (sym (y.only k e)) (g s a)
 
 -- where the next token tells something, it is one of the kinds that tell it
-pub front_tells : {X I : Type 0} (build : I → TokenKind) (at : Lead → Option X) (Of : I → X → Type 0)
-    → ((k : TokenKind) (x : X) → at (lead_of k) ≡ Some x → (i : I) × (k ≡ build i) × Of i x) → at lead.End ≡ None
-    → (M : Tokens → Type 0) (x : X) (a : Tokens) → at (front a) ≡ Some x → ((i : I) (s : Span) (c : Tokens) → Of i x → M ((build i, s) ∷ c)) → M a
-front_tells build at Of is end M x [] e g = absurd (cc (end, e))
-front_tells build at Of is end M x ((k, s) ∷ a) e g = let y = is k x e in subst (λ z. M ((z, s) ∷ a)) (sym y.1) (g y.0 s a y.2)
+pub lookahead_tells : {X I : Type 0} (build : I → TokenKind) (at : Terminal → Option X) (Of : I → X → Type 0)
+    → ((k : TokenKind) (x : X) → at (terminal_of k) ≡ Some x → (i : I) × (k ≡ build i) × Of i x) → at terminal.End ≡ None
+    → (M : Tokens → Type 0) (x : X) (a : Tokens) → at (lookahead a) ≡ Some x → ((i : I) (s : Span) (c : Tokens) → Of i x → M ((build i, s) ∷ c)) → M a
+lookahead_tells build at Of is end M x [] e g = absurd (cc (end, e))
+lookahead_tells build at Of is end M x ((k, s) ∷ a) e g = let y = is k x e in subst (λ z. M ((z, s) ∷ a)) (sym y.1) (g y.0 s a y.2)
 
 -- ---- readers of tokens
 -- P holds of the tokens before the token, and V where the token isn't the one that is read.
 
-expected_by_fits : {is : Lead → Bool} {K : TokenKind} {B : Type 0} {V W : Tokens → Type 0} {G : B → ℕ → Tokens → Type 0} → Only is K
-    → (P : Tokens → Type 0) (f : Span → Reader B) (r : ℕ) (k : TokenKind) (s : Span) (a : Tokens) (x : Bool) → is (lead_of k) ≡ x
+expected_by_fits : {is : Terminal → Bool} {K : TokenKind} {B : Type 0} {V W : Tokens → Type 0} {G : B → ℕ → Tokens → Type 0} → Only is K
+    → (P : Tokens → Type 0) (f : Span → Reader B) (r : ℕ) (k : TokenKind) (s : Span) (a : Tokens) (x : Bool) → is (terminal_of k) ≡ x
     → V ((k, s) ∷ a) → P ((k, s) ∷ a) → ((s : Span) (c : Tokens) → P ((K, s) ∷ c) → Fits V W G (f s r c)) → Fits V W G (and_then (expected_by x r ((k, s) ∷ a)) f)
 expected_by_fits y P f r k s a true e v p g = g s a (subst (λ z. P ((z, s) ∷ a)) (y.only k e) p)
 expected_by_fits y P f r k s a false e v p g = Fits.stops v
 
 -- a token of the kind, and then what is read after it
-pub token_fits : {is : Lead → Bool} {K : TokenKind} {B : Type 0} {V W : Tokens → Type 0} {G : B → ℕ → Tokens → Type 0} → Only is K
+pub token_fits : {is : Terminal → Bool} {K : TokenKind} {B : Type 0} {V W : Tokens → Type 0} {G : B → ℕ → Tokens → Type 0} → Only is K
     → (P : Tokens → Type 0) (f : Span → Reader B) (r : ℕ) (a : Tokens) → V a → P a → ((s : Span) (c : Tokens) → P ((K, s) ∷ c) → Fits V W G (f s r c))
     → Fits V W G (and_then (expected is r a) f)
 token_fits {V = V} {W = W} {G = G} y P f r [] v p g = subst (λ (z : Bool). Fits V W G (and_then (expected_by z r []) f)) (sym y.end) (Fits.stops v)
-token_fits {is = is} y P f r ((k, s) ∷ a) v p g = expected_by_fits y P f r k s a (is (lead_of k)) refl v p g
+token_fits {is = is} y P f r ((k, s) ∷ a) v p g = expected_by_fits y P f r k s a (is (terminal_of k)) refl v p g
 
 -- a name, and then what is read after it
 pub name_fits : {B : Type 0} {V W : Tokens → Type 0} {G : B → ℕ → Tokens → Type 0} (P : Tokens → Type 0) (f : List ℕ × Span → Reader B) (r : ℕ) (a : Tokens)
@@ -149,24 +149,24 @@ text_fits P f r ((kind.Str w, s) ∷ a) v p g = g w s a p
 text_fits P f r ((k, s) ∷ a) v p g = Fits.stops v
 
 type_by_fits : {B : Type 0} {V W : Tokens → Type 0} {G : B → ℕ → Tokens → Type 0} (P : Tokens → Type 0) (f : Ty → Reader B) (r : ℕ) (a : Tokens) (x : Option Ty)
-    → type_at (front a) ≡ x
+    → type_at (lookahead a) ≡ x
     → V a → P a → ((k : Keyword) (ty : Ty) (s : Span) (c : Tokens) → type_word k ≡ Some ty → P ((kind.Word k, s) ∷ c) → Fits V W G (f ty r c))
     → Fits V W G (and_then (type_by x r a) f)
 type_by_fits P f r a None e v p g = Fits.stops v
 type_by_fits {V = V} {W = W} {G = G} P f r a (Some ty) e v p g =
-    front_tells kind.Word type_at (λ k t. type_word k ≡ Some t) type_is refl (λ z. P z → Fits V W G (and_then (type_by (Some ty) r z) f)) ty a e
+    lookahead_tells kind.Word type_at (λ k t. type_word k ≡ Some t) type_is refl (λ z. P z → Fits V W G (and_then (type_by (Some ty) r z) f)) ty a e
     (λ k s c q i. g k ty s c q i) p
 
 -- a type, and then what is read after it
 pub type_fits : {B : Type 0} {V W : Tokens → Type 0} {G : B → ℕ → Tokens → Type 0} (P : Tokens → Type 0) (f : Ty → Reader B) (r : ℕ) (a : Tokens)
     → V a → P a → ((k : Keyword) (ty : Ty) (s : Span) (c : Tokens) → type_word k ≡ Some ty → P ((kind.Word k, s) ∷ c) → Fits V W G (f ty r c))
     → Fits V W G (and_then (type r a) f)
-type_fits P f r a v p g = type_by_fits P f r a (type_at (front a)) refl v p g
+type_fits P f r a v p g = type_by_fits P f r a (type_at (lookahead a)) refl v p g
 
 -- ---- the same, where what is to hold speaks of the token
 
 -- a token of the kind, and then what is read after it
-pub token_opens : {is : Lead → Bool} {K : TokenKind} {B : Type 0} → Only is K
+pub token_opens : {is : Terminal → Bool} {K : TokenKind} {B : Type 0} → Only is K
     → (V W : Tokens → Tokens → Type 0) (G : Tokens → B → ℕ → Tokens → Type 0) (f : Span → Reader B) (r : ℕ) (a : Tokens)
     → V a a → ((s : Span) (c : Tokens) → Fits (V ((K, s) ∷ c)) (W ((K, s) ∷ c)) (G ((K, s) ∷ c)) (f s r c)) → Fits (V a) (W a) (G a) (and_then (expected is r a) f)
 token_opens y V W G f r a v g = token_fits y (λ z. a ≡ z) f r a v refl (λ s c e. subst (λ z. Fits (V z) (W z) (G z) (f s r c)) (sym e) (g s c))
@@ -197,21 +197,21 @@ pub type_opens : {B : Type 0} (V W : Tokens → Tokens → Type 0) (G : Tokens �
     → Fits (V a) (W a) (G a) (and_then (type r a) f)
 type_opens V W G f r a v g = type_fits (λ z. a ≡ z) f r a v refl (λ k ty s c q e. subst (λ z. Fits (V z) (W z) (G z) (f ty r c)) (sym e) (g k ty s c q))
 
-enters_by : {is : Lead → Bool} {K : TokenKind} {B : Type 0} → Only is K
+enters_by : {is : Terminal → Bool} {K : TokenKind} {B : Type 0} → Only is K
     → (V : ℕ → Tokens → Tokens → Type 0) (G : ℕ → Tokens → B → ℕ → Tokens → Type 0) (f : ℕ → Span → Reader B) (r : ℕ) (a : Tokens) (x : Bool)
-    → is (front a) ≡ x → ((m : ℕ) (c : Tokens) → V m c c) → ((s : Span) (m : ℕ) (c : Tokens) → V (suc m) ((K, s) ∷ c) c)
+    → is (lookahead a) ≡ x → ((m : ℕ) (c : Tokens) → V m c c) → ((s : Span) (m : ℕ) (c : Tokens) → V (suc m) ((K, s) ∷ c) c)
     → ((s : Span) (m : ℕ) (c : Tokens) → Fits (V (suc m) ((K, s) ∷ c)) (V (suc (suc m)) ((K, s) ∷ c)) (G (suc m) ((K, s) ∷ c)) (f (suc m) s m c))
     → Fits (V r a) (V (suc r) a) (G r a) (and_then (entered_by x r a) (f r))
 enters_by y V G f r a false e v w g = Fits.stops (v r a)
 enters_by y V G f zero a true e v w g =
-    front_is y (λ z. Fits (V zero z) (V (suc zero) z) (G zero z) (and_then (entered_by true zero z) (f zero))) a e (λ s c. Fits.sinks (v zero _) (w s zero c))
+    lookahead_is y (λ z. Fits (V zero z) (V (suc zero) z) (G zero z) (and_then (entered_by true zero z) (f zero))) a e (λ s c. Fits.sinks (v zero _) (w s zero c))
 enters_by y V G f (suc r) a true e v w g =
-    front_is y (λ z. Fits (V (suc r) z) (V (suc (suc r)) z) (G (suc r) z) (and_then (entered_by true (suc r) z) (f (suc r)))) a e (λ s c. g s r c)
+    lookahead_is y (λ z. Fits (V (suc r) z) (V (suc (suc r)) z) (G (suc r) z) (and_then (entered_by true (suc r) z) (f (suc r)))) a e (λ s c. g s r c)
 
 -- a token of the kind as an opener, and then what is read after it
-pub enters : {is : Lead → Bool} {K : TokenKind} {B : Type 0} → Only is K
+pub enters : {is : Terminal → Bool} {K : TokenKind} {B : Type 0} → Only is K
     → (V : ℕ → Tokens → Tokens → Type 0) (G : ℕ → Tokens → B → ℕ → Tokens → Type 0) (f : ℕ → Span → Reader B)
     → ((m : ℕ) (c : Tokens) → V m c c) → ((s : Span) (m : ℕ) (c : Tokens) → V (suc m) ((K, s) ∷ c) c)
     → ((s : Span) (m : ℕ) (c : Tokens) → Fits (V (suc m) ((K, s) ∷ c)) (V (suc (suc m)) ((K, s) ∷ c)) (G (suc m) ((K, s) ∷ c)) (f (suc m) s m c))
     → (r : ℕ) (a : Tokens) → Fits (V r a) (V (suc r) a) (G r a) (and_then (entered is r a) (f r))
-enters {is = is} y V G f v w g r a = enters_by y V G f r a (is (front a)) refl v w g
+enters {is = is} y V G f v w g r a = enters_by y V G f r a (is (lookahead a)) refl v w g

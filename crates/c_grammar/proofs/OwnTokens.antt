@@ -7,12 +7,12 @@ use Rattle.c_tree.specs.declared.place.Span.{Span}
 use Rattle.c_tree.specs.Parts.{span_of, span_of_code}
 use Rattle.c_tree.specs.Tree as tree
 use Rattle.c_tree.specs.Tree.{Tree, Code}
-use Rattle.c_grammar.specs.declared.part.Part.{Part}
+use Rattle.c_grammar.specs.declared.nonterminal.Nonterminal.{Nonterminal}
 use Rattle.c_grammar.specs.Grammar.{Tokens, over, wrapped, Reads}
-use Rattle.c_grammar.specs.Programs.{code_span, Statement}
+use Rattle.c_grammar.specs.Programs.{Statement}
 use Rattle.c_grammar.specs.Texts.{OwnTokens}
-use Rattle.c_grammar.proofs.Fronts.{Tail, all, later, join, next, tail_reads, tail_arguments}
-use Rattle.c_grammar.proofs.ProgramFronts.{tail_clause, tail_optional, tail_statement, tail_items}
+use Rattle.c_grammar.proofs.ExpressionPrefixes.{Tail, all, later, join, next, tail_reads, tail_arguments}
+use Rattle.c_grammar.proofs.ProgramPrefixes.{tail_clause, tail_optional, tail_statement, tail_items}
 
 -- ---- tokens and the text that they cover
 
@@ -77,7 +77,7 @@ wrapped_twice s e tree.hole = refl
 wrapped_twice s e (tree.hole_after t) = refl
 
 -- what is read has a text, which parentheses widen
-text_wrapped : {N : Part} {r m : ℕ} {a b : Tokens} {t : Tree} (s : Span) → Reads N r a m b t
+text_wrapped : {N : Nonterminal} {r m : ℕ} {a b : Tokens} {t : Tree} (s : Span) → Reads N r a m b t
     → span_of (wrapped s t) ≡ s
 text_wrapped s Reads.constant = refl
 text_wrapped s Reads.name = refl
@@ -102,7 +102,7 @@ text_wrapped s (Reads.assign e d1 d2) = refl
 text_wrapped s (Reads.expression d) = text_wrapped s d
 text_wrapped s (Reads.comma d1 d2) = refl
 
-owns : {N : Part} {r m : ℕ} {a b : Tokens} {t : Tree} → Reads N r a m b t → OwnTokens a b (span_of t)
+owns : {N : Nonterminal} {r m : ℕ} {a b : Tokens} {t : Tree} → Reads N r a m b t → OwnTokens a b (span_of t)
 owns (Reads.constant {a = a} {n = n} {w = w} {s = s}) = alone (kind.Const n w) s a
 owns (Reads.name {a = a} {w = w} {s = s}) = alone (kind.Name w) s a
 owns (Reads.index {a = a} {w = w} {s = s} d) = pair (alone _ s _) (later (tail_reads d)) (alone _ _ _)
@@ -128,12 +128,12 @@ owns (Reads.expression d) = owns d
 owns (Reads.comma d1 d2) = pair (owns d1) (later all) (owns d2)
 
 -- what is read has tokens of its own
-pub expression_owns : (N : Part) (r m : ℕ) (a b : Tokens) (t : Tree) → Reads N r a m b t → OwnTokens a b (span_of t)
+pub expression_owns : (N : Nonterminal) (r m : ℕ) (a b : Tokens) (t : Tree) → Reads N r a m b t → OwnTokens a b (span_of t)
 expression_owns N r m a b t d = owns d
 
 -- ---- statements
 
-code_owns : {o : Bool} {r : ℕ} {a b : Tokens} {x : Code} → Statement o r a b x → OwnTokens a b (code_span x)
+code_owns : {o : Bool} {r : ℕ} {a b : Tokens} {x : Code} → Statement o r a b x → OwnTokens a b (span_of_code x)
 code_owns (Statement.empty {s = s}) = alone _ s _
 code_owns (Statement.act {e = e} d) = pair (owns d) all (alone _ e _)
 code_owns (Statement.block {s = s} {e = e} d) = pair (alone _ s _) (tail_items d) (alone _ e _)
@@ -149,20 +149,7 @@ code_owns (Statement.give {s = s} {e = e} d) = pair (alone _ s _) (tail_optional
 code_owns (Statement.break {s = s} {e = e}) = pair (alone _ s _) all (alone _ e _)
 code_owns (Statement.continue {s = s} {e = e}) = pair (alone _ s _) all (alone _ e _)
 
-same_text : (x : Code) → code_span x ≡ span_of_code x
-same_text (tree.empty s) = refl
-same_text (tree.act t s) = refl
-same_text (tree.block body s) = refl
-same_text (tree.if_then t y s) = refl
-same_text (tree.if_else t y z s) = refl
-same_text (tree.while t y s) = refl
-same_text (tree.do_while y t s) = refl
-same_text (tree.for i t u y s) = refl
-same_text (tree.give t s) = refl
-same_text (tree.break s) = refl
-same_text (tree.continue s) = refl
-
 -- a statement has tokens of its own
 pub statement_owns : (o : Bool) (r : ℕ) (a b : Tokens) (x : Code) → Statement o r a b x
     → OwnTokens a b (span_of_code x)
-statement_owns o r a b x d = subst (OwnTokens a b) (same_text x) (code_owns d)
+statement_owns o r a b x d = code_owns d

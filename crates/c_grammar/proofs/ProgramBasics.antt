@@ -4,10 +4,10 @@ use Rattle.c_tree.specs.declared.place.Span.{Span}
 use Rattle.c_tree.specs.declared.program.Param.{Param}
 use Rattle.c_tree.specs.declared.stmt.Ty.{Ty}
 use Rattle.c_tree.specs.Tree.{Tree, Variable, First, Code, Body, Outer}
-use Rattle.c_grammar.specs.declared.part.Part.TheVariants.{Expression}
+use Rattle.c_grammar.specs.declared.nonterminal.Nonterminal.TheVariants.{Expression}
 use Rattle.c_grammar.specs.Grammar.{Tokens, Begins}
 use Rattle.c_grammar.specs.Programs.{Length, Elements, Declarator, Declarators, Vars, Clause, Optional, Statement, Items, Parameter, Parameters, Signature, External, Derives, BeginsLength, BeginsElements, BeginsDeclarator, BeginsDeclarators, BeginsVars, BeginsClause, BeginsStatement, BeginsItems, BeginsParameter, BeginsParameters, BeginsSignature, BeginsExternal, Viable}
-use Rattle.c_grammar.proofs.Basics.{reads_lift, begins_lift, reads_begun, reads_shorter}
+use Rattle.c_grammar.proofs.ExpressionBasics.{reads_lift, begins_lift, reads_begun, reads_shorter}
 
 -- ---- with more room the same is derived
 

@@ -1,4 +1,4 @@
--- A program behind whose openers there is room to spare is one with less room: so it is one with any room that its nesting doesn't pass.
+-- A program after whose openers there is room to spare is one with less room: so it is one with any room that its nesting doesn't pass.
 use Rattle.std.proofs.Common.{◌≡◌, ℕ, ℤ, zero, suc, ◌≤◌, ◌+◌, ◌-◌, Bool, List, ◌++◌, Option, inl, inr, arith, subst, All}
 use Rattle.std.proofs.lemmas.List.Elements.{All-head, All-tail}
 use Rattle.c_tree.specs.declared.place.Span.{Span}
@@ -12,7 +12,7 @@ use Rattle.c_grammar.specs.Rooms.{Along, rooms, length_rooms, elements_rooms, de
 use Rattle.c_grammar.proofs.ProgramBasics.{derives_lift}
 use Rattle.c_grammar.proofs.Nested.{larger}
 use Rattle.c_grammar.proofs.ProgramNesting.{room_used}
-use Rattle.c_grammar.proofs.Lowered.{Spare, first, others, left, right, suc_less, reads_lower}
+use Rattle.c_grammar.proofs.ExpressionLowered.{Spare, first, others, left, right, suc_less, reads_lower}
 
 -- ---- declarations
 
@@ -133,7 +133,7 @@ program_lower x (Derives.more d e) h = Derives.more (external_lower x d (left (e
 
 -- ---- the law
 
--- where no opener nests deeper than a room, behind each opener there is as much to spare as the room before the program is larger
+-- where no opener nests deeper than a room, after each opener there is as much to spare as the room before the program is larger
 pub spared : (l : List Opener) (r : ℕ) {s : ℕ} {k : List Opener} {q : List ℕ} → Along (λ o n. n + nesting l o.0 ≡ s) k q → All (λ o. nesting l o.0 ≤ r) k → Spare (s - r) q
 spared l r Along.none h = Spare.none
 spared l r (Along.also {o = o} {k = k} x y) h = let z = All-head (λ o. nesting l o.0 ≤ r) o k h in Spare.also (omega arith) (spared l r y (All-tail (λ o. nesting l o.0 ≤ r) o k h))

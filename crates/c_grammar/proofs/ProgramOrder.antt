@@ -3,12 +3,13 @@ use Rattle.std.proofs.Common.{ℕ, ℤ, ◌≤◌, ◌<◌, Bool, List, Option, 
 use Rattle.c_tree.specs.declared.place.Span.{Span}
 use Rattle.c_tree.specs.declared.program.Param.{Param}
 use Rattle.c_tree.specs.declared.stmt.Ty.{Ty}
+use Rattle.c_tree.specs.Parts.{span_of_code}
 use Rattle.c_tree.specs.Tree.{Tree, Variable, First, Code, Body, Outer}
 use Rattle.c_tree.specs.Order.{Within, TreesIn, OptionIn, InitialIn, VariablesIn, FirstIn, CodeIn, BodyIn, ParamsIn, DefinitionIn, OuterIn, ProgramIn}
 use Rattle.c_lex.specs.Lexemes.{Rise}
 use Rattle.c_grammar.specs.Grammar.{Tokens}
-use Rattle.c_grammar.specs.Programs.{code_span, Length, Elements, Declarator, Declarators, Vars, Clause, Optional, Statement, Items, Parameter, Parameters, Signature, External, Derives}
-use Rattle.c_grammar.proofs.TreeOrder.{text_in, moved, spread, Placed, tree_placed}
+use Rattle.c_grammar.specs.Programs.{Length, Elements, Declarator, Declarators, Vars, Clause, Optional, Statement, Items, Parameter, Parameters, Signature, External, Derives}
+use Rattle.c_grammar.proofs.ExpressionOrder.{text_in, moved, spread, Placed, tree_placed}
 
 -- ---- parts between other places
 
@@ -34,7 +35,7 @@ first_spread (FirstIn.act x) h g = FirstIn.act (spread x h g)
 first_spread (FirstIn.vars x) h g = FirstIn.vars (variables_spread x h g)
 
 -- the text of a statement lies where the statement does
-code_in : {i j : ℕ} {c : Code} → CodeIn i j c → Within i j (code_span c)
+code_in : {i j : ℕ} {c : Code} → CodeIn i j c → Within i j (span_of_code c)
 code_in (CodeIn.empty w) = w
 code_in (CodeIn.act w x) = w
 code_in (CodeIn.block w x) = w
@@ -48,7 +49,7 @@ code_in (CodeIn.break w) = w
 code_in (CodeIn.continue w) = w
 
 -- a statement lies wherever its text does
-code_moved : {i j k l : ℕ} {c : Code} → CodeIn i j c → Within k l (code_span c) → CodeIn k l c
+code_moved : {i j k l : ℕ} {c : Code} → CodeIn i j c → Within k l (span_of_code c) → CodeIn k l c
 code_moved (CodeIn.empty v) w = CodeIn.empty w
 code_moved (CodeIn.act v x) w = CodeIn.act w x
 code_moved (CodeIn.block v x) w = CodeIn.block w x

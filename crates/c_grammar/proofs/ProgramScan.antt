@@ -6,25 +6,25 @@ use Rattle.c_tree.specs.declared.place.Span.{Span}
 use Rattle.c_tree.specs.declared.program.Param.{Param}
 use Rattle.c_tree.specs.declared.stmt.Ty.{Ty}
 use Rattle.c_tree.specs.Tree.{Tree, Variable, First, Code, Body, Outer}
-use Rattle.c_grammar.specs.declared.lead.Lead.{Lead}
-use Rattle.c_grammar.specs.declared.lead.Lead.TheVariants as lead
-use Rattle.c_grammar.specs.declared.part.Part.{Part as Kind}
-use Rattle.c_grammar.specs.declared.part.Part.TheVariants.{Expression}
+use Rattle.c_grammar.specs.declared.terminal.Terminal.{Terminal}
+use Rattle.c_grammar.specs.declared.terminal.Terminal.TheVariants as terminal
+use Rattle.c_grammar.specs.declared.nonterminal.Nonterminal.{Nonterminal}
+use Rattle.c_grammar.specs.declared.nonterminal.Nonterminal.TheVariants.{Expression}
 use Rattle.c_grammar.specs.Grammar.{Tokens, Reads}
-use Rattle.c_grammar.specs.Leads.{front, is_else, keyword_lead, lead_of, result_at}
+use Rattle.c_grammar.specs.Terminals.{lookahead, is_else, keyword_terminal, terminal_of, result_at, rest}
 use Rattle.c_grammar.specs.Operators.{result_word}
-use Rattle.c_grammar.specs.Nesting.{Opener, next, ending, openers, length_openers, elements_openers, elements_ending, declarator_openers, declarators_openers, vars_openers, clause_openers, optional_openers, optional_ending, items_ending, statement_openers, items_openers, parameter_openers, parameters_openers, signature_openers, signature_ending, external_openers}
+use Rattle.c_grammar.specs.Nesting.{Opener, ending, openers, length_openers, elements_openers, elements_ending, declarator_openers, declarators_openers, vars_openers, clause_openers, optional_openers, optional_ending, items_ending, statement_openers, items_openers, parameter_openers, parameters_openers, signature_openers, signature_ending, external_openers}
 use Rattle.c_grammar.specs.Programs.{Length, Elements, Declarator, Declarators, Vars, Clause, Optional, Statement, Items, Parameter, Parameters, Signature, External}
-use Rattle.c_grammar.proofs.Basics.{room, reads_shorter}
+use Rattle.c_grammar.proofs.ExpressionBasics.{room, reads_shorter}
 use Rattle.c_grammar.proofs.ProgramBasics.{length_shorter, elements_shorter, declarators_shorter, clause_shorter, optional_shorter, statement_shorter, items_shorter, parameters_shorter}
-use Rattle.c_grammar.proofs.Leads.{lead_type, lead_result}
-use Rattle.c_grammar.proofs.Starts.{starting, starts, starting_no_else}
+use Rattle.c_grammar.proofs.Terminals.{terminal_type, terminal_result}
+use Rattle.c_grammar.proofs.ExpressionFirstSets.{starting, starts, starting_no_else}
 use Rattle.c_grammar.proofs.Scanner.{Frame, group, list, start, test, again, first, second, third, act, branch, body, turn, block, State, fresh, ended, operand, operated, declared, head, of_test, depth, vars_end, shut, by_else, at_operand, at_fresh, at_ended, step}
 use Rattle.c_grammar.proofs.ScannedParts.{Part, nothing, before, opened, after, close, finish, join, enter}
 use Rattle.c_grammar.proofs.ExpressionScan.{Free, reads_part}
 
 -- an expression, with the nesting after it
-pub reads_from : {N : Kind} {r m : ℕ} {a b : Tokens} {t : Tree} (d : Reads N r a m b t) (end : Tokens)
+pub reads_from : {N : Nonterminal} {r m : ℕ} {a b : Tokens} {t : Tree} (d : Reads N r a m b t) (end : Tokens)
     → length end ≤ length b → (n : ℕ) (k : List Frame) → Free N k
     → Part r m (length end) n (operand n k) a (operated (n + r - m) k) b (openers d end)
 reads_from {r = r} {m = m} d end h n k f = let y = room d in reads_part d end h n (n + r - m) (omega arith) k f
@@ -34,15 +34,15 @@ reads_from {r = r} {m = m} d end h n k f = let y = room d in reads_part d end h 
 pub length_part : {r : ℕ} {a b : Tokens} {v : Option ℤ} {e : Span} (d : Length r a b v e) (n : ℕ) (k : List Frame) (z : ℕ)
     → z ≤ length b → Part r r z n (declared n k) a (declared n k) b (length_openers d)
 length_part {a = a} (Length.bare {r = r}) n k z h =
-    close (opened refl refl (next a) (nothing r (length (next a)) (suc n) (declared (suc n) (group n ∷ k)) (next a) (omega arith))) refl refl h
+    close (opened refl refl (rest a) (nothing r (length (rest a)) (suc n) (declared (suc n) (group n ∷ k)) (rest a) (omega arith))) refl refl h
 length_part {a = a} (Length.constant {r = r}) n k z h =
-    let c = next (next a) in
+    let c = rest (rest a) in
     close (opened refl refl c (before refl refl (nothing r (length c) (suc n) (declared (suc n) (group n ∷ k)) c (omega arith)))) refl refl h
 
 -- the elements of an initialiser list, up to its `}`
 pub record Listed (r z n : ℕ) (k : List Frame) (a b : Tokens) (l : List Opener) : Type 0 where
   pub final : State
-  pub closes : step final lead.CloseBrace ≡ operated n k
+  pub closes : step final terminal.CloseBrace ≡ operated n k
   pub part : Part r r z (suc n) (operand (suc n) (list n ∷ k)) a final b l
 
 pub elements_part : {r : ℕ} {a b : Tokens} {ts : List Tree} (d : Elements r a b ts) (n : ℕ) (k : List Frame) (z : ℕ)
@@ -66,8 +66,8 @@ elements_part (Elements.more d e) n k z h =
 -- a declared variable, up to the comma or the `;` after it
 pub record Declared (r z n : ℕ) (k : List Frame) (a b : Tokens) (l : List Opener) : Type 0 where
   pub final : State
-  pub comma : step final lead.Comma ≡ declared n k
-  pub semicolon : step final lead.Semicolon ≡ vars_end k n
+  pub comma : step final terminal.Comma ≡ declared n k
+  pub semicolon : step final terminal.Semicolon ≡ vars_end k n
   pub part : Part r r z n (declared n k) a final b l
 
 pub declarator_part : {r : ℕ} {a b : Tokens} {v : Variable} (d : Declarator r a b v) (n : ℕ) (k : List Frame) (z : ℕ)
@@ -110,11 +110,11 @@ vars_depth (_ ∷ k) n = refl
 
 -- a declaration, from where a type begins one
 pub vars_part : {r : ℕ} {a b : Tokens} {ty : Ty} {vs : List Variable} (d : Vars r a b ty vs) (σ : State) (n : ℕ) (k : List Frame)
-    → ((t : Ty) → step σ (lead.Type t) ≡ declared n k) → (z : ℕ) → z ≤ length b
+    → ((t : Ty) → step σ (terminal.Type t) ≡ declared n k) → (z : ℕ) → z ≤ length b
     → Part r r z n σ a (vars_end k n) b (vars_openers d)
 vars_part {r = r} (Vars.vars {k = w} {ty = ty} i d) σ n k o z h =
     let p = declarators_part d n k z (omega arith) in
-    before (ap (step σ) (lead_type w ty i) ∙ o ty) refl (after p.part p.semicolon (ap (λ j. j + r) (vars_depth k n)) h)
+    before (ap (step σ) (terminal_type w ty i) ∙ o ty) refl (after p.part p.semicolon (ap (λ j. j + r) (vars_depth k n)) h)
 
 -- ---- parts of statements
 
@@ -130,8 +130,8 @@ pub record Opted (r e n : ℕ) (k : List Frame) (a b : Tokens) (l : List Opener)
   pub left : ℕ
   pub until : ℕ
   pub final : State
-  pub semicolon : step final lead.Semicolon ≡ shut k until
-  pub paren : step final lead.CloseParen ≡ shut k until
+  pub semicolon : step final terminal.Semicolon ≡ shut k until
+  pub paren : step final terminal.CloseParen ≡ shut k until
   pub deep : until + left ≡ n + r
   pub part : Part r left e n (operand n k) a final b l
 
@@ -156,12 +156,12 @@ optional_part {r = r} (Optional.present {m = m} d) end h n k f =
 
 -- the scanner goes on as where a statement may begin
 abbrev pub Opens : State → ℕ → List Frame → Type 0
-Opens σ n k = (l : Lead) → is_else l ≡ false → step σ l ≡ at_fresh l n k
+Opens σ n k = (l : Terminal) → is_else l ≡ false → step σ l ≡ at_fresh l n k
 
 -- a statement, after which the scanner goes on as where one has ended. Where o is true an `else` after it belongs to it.
 pub record Ended (o : Bool) (r z n : ℕ) (σ : State) (a b : Tokens) (k : List Frame) (l : List Opener) : Type 0 where
   pub final : State
-  pub goes_on : (x : Lead) → (o ≡ true → is_else x ≡ false) → step final x ≡ at_ended k x
+  pub goes_on : (x : Terminal) → (o ≡ true → is_else x ≡ false) → step final x ≡ at_ended k x
   pub part : Part r r z n σ a final b l
 
 -- items of a block
@@ -170,20 +170,20 @@ pub record Itemed (r z n : ℕ) (σ : State) (a b : Tokens) (k : List Frame) (l 
   pub opens : Opens final (suc n) (block n ∷ k)
   pub part : Part r r z (suc n) σ a final b l
 
-pub fresh_operand : (l : Lead) (n : ℕ) (k : List Frame) → starting l ≡ true
+pub fresh_operand : (l : Terminal) (n : ℕ) (k : List Frame) → starting l ≡ true
     → at_fresh l n k ≡ at_operand l n (act ∷ k)
-fresh_operand lead.Semicolon n k e = absurd (cc (e))
-fresh_operand lead.OpenBrace n k e = absurd (cc (e))
-fresh_operand lead.CloseBrace n k e = absurd (cc (e))
-fresh_operand lead.If n k e = absurd (cc (e))
-fresh_operand lead.While n k e = absurd (cc (e))
-fresh_operand lead.Do n k e = absurd (cc (e))
-fresh_operand lead.For n k e = absurd (cc (e))
-fresh_operand lead.Return n k e = absurd (cc (e))
-fresh_operand lead.Break n k e = absurd (cc (e))
-fresh_operand lead.Continue n k e = absurd (cc (e))
-fresh_operand (lead.Type ty) n k e = absurd (cc (e))
-fresh_operand lead.Void n k e = absurd (cc (e))
+fresh_operand terminal.Semicolon n k e = absurd (cc (e))
+fresh_operand terminal.OpenBrace n k e = absurd (cc (e))
+fresh_operand terminal.CloseBrace n k e = absurd (cc (e))
+fresh_operand terminal.If n k e = absurd (cc (e))
+fresh_operand terminal.While n k e = absurd (cc (e))
+fresh_operand terminal.Do n k e = absurd (cc (e))
+fresh_operand terminal.For n k e = absurd (cc (e))
+fresh_operand terminal.Return n k e = absurd (cc (e))
+fresh_operand terminal.Break n k e = absurd (cc (e))
+fresh_operand terminal.Continue n k e = absurd (cc (e))
+fresh_operand (terminal.Type ty) n k e = absurd (cc (e))
+fresh_operand terminal.Void n k e = absurd (cc (e))
 fresh_operand _ n k e = refl
 
 by_else_false : (x : Bool) (n : ℕ) (k : List Frame) (σ : State) → x ≡ false → by_else x n k σ ≡ σ
@@ -192,7 +192,7 @@ by_else_false false n k σ e = refl
 
 -- `( expression )` after `if` or `while`
 pub test_part : {r m n : ℕ} {x y : TokenKind × Span} {a b : Tokens} {k : List Frame} {t : Tree}
-    → lead_of x.0 ≡ lead.OpenParen → lead_of y.0 ≡ lead.CloseParen
+    → terminal_of x.0 ≡ terminal.OpenParen → terminal_of y.0 ≡ terminal.CloseParen
     → (d : Reads Expression r a m (y ∷ b) t) (z : ℕ) → z ≤ length b
     → Part (suc r) (suc r) z n (head of_test n k) (x ∷ a) (fresh n k) b ((x ∷ a, y ∷ b) ∷ openers d (y ∷ b))
 test_part {n = n} {y = y} {b = b} {k = k} i j d z h =
@@ -203,12 +203,12 @@ mutual
   pub statement_part : {o : Bool} {r : ℕ} {a b : Tokens} {x : Code} (d : Statement o r a b x) (σ : State) (n : ℕ) (k : List Frame)
       → Opens σ n k → (z : ℕ) → z ≤ length b → Ended o r z n σ a b k (statement_openers d)
   statement_part {r = r} {b = b} Statement.empty σ n k g z h =
-      record { final = ended n k; goes_on = λ l i. refl; part = before (g lead.Semicolon refl) refl (nothing r z n (ended n k) b h) }
+      record { final = ended n k; goes_on = λ l i. refl; part = before (g terminal.Semicolon refl) refl (nothing r z n (ended n k) b h) }
   statement_part {r = r} {a = a} {b = b} (Statement.act {m = m} d) σ n k g z h =
       let y = room d in
       let s = starts d in
       let l = reads_shorter d in
-      let q : step σ (front a) ≡ at_operand (front a) n (act ∷ k) = g (front a) (starting_no_else (front a) s) ∙ fresh_operand (front a) n k s in
+      let q : step σ (lookahead a) ≡ at_operand (lookahead a) n (act ∷ k) = g (lookahead a) (starting_no_else (lookahead a) s) ∙ fresh_operand (lookahead a) n k s in
       record {
         final = ended (n + r - m) k;
         goes_on = λ l i. refl;
@@ -217,25 +217,25 @@ mutual
   statement_part (Statement.block d) σ n k g z h =
       let c = items_ending d in
       let p = items_part d (fresh (suc n) (block n ∷ k)) n k (λ l i. refl) (length c) (omega arith) in
-      record { final = ended n k; goes_on = λ l i. refl; part = close (opened (g lead.OpenBrace refl) refl c p.part) (p.opens lead.CloseBrace refl) refl h }
+      record { final = ended n k; goes_on = λ l i. refl; part = close (opened (g terminal.OpenBrace refl) refl c p.part) (p.opens terminal.CloseBrace refl) refl h }
   statement_part {b = b} (Statement.if_then d e) σ n k g z h =
       let x = statement_shorter e in
       let q = statement_part e (fresh (suc n) (branch n ∷ k)) (suc n) (branch n ∷ k) (λ l i. refl) (length b) (omega arith) in
       record {
         final = q.final;
         goes_on = λ l i. q.goes_on l (λ j. i refl) ∙ by_else_false (is_else l) n k (at_ended k l) (i refl);
-        part = finish (opened (g lead.If refl) refl b (join (test_part refl refl d (length b) (omega arith)) q.part refl)) h;
+        part = finish (opened (g terminal.If refl) refl b (join (test_part refl refl d (length b) (omega arith)) q.part refl)) h;
       }
   statement_part {b = b} (Statement.if_else d e f) σ n k g z h =
       let x = statement_shorter e in
       let y = statement_shorter f in
       let p = statement_part e (fresh (suc n) (branch n ∷ k)) (suc n) (branch n ∷ k) (λ l i. refl) (length b) (omega arith) in
       let q = statement_part f (fresh (suc n) (body n ∷ k)) (suc n) (body n ∷ k) (λ l i. refl) (length b) (omega arith) in
-      let s = after p.part (p.goes_on lead.Else (λ j. absurd (cc (j)))) refl (omega arith) in
+      let s = after p.part (p.goes_on terminal.Else (λ j. absurd (cc (j)))) refl (omega arith) in
       record {
         final = q.final;
         goes_on = q.goes_on;
-        part = finish (opened (g lead.If refl) refl b (join (join (test_part refl refl d (length b) (omega arith)) s refl) q.part refl)) h;
+        part = finish (opened (g terminal.If refl) refl b (join (join (test_part refl refl d (length b) (omega arith)) s refl) q.part refl)) h;
       }
   statement_part {b = b} (Statement.while d e) σ n k g z h =
       let x = statement_shorter e in
@@ -243,18 +243,18 @@ mutual
       record {
         final = q.final;
         goes_on = q.goes_on;
-        part = finish (opened (g lead.While refl) refl b (join (test_part refl refl d (length b) (omega arith)) q.part refl)) h;
+        part = finish (opened (g terminal.While refl) refl b (join (test_part refl refl d (length b) (omega arith)) q.part refl)) h;
       }
   statement_part {b = b} (Statement.do_while d e) σ n k g z h =
       let x = statement_shorter d in
       let y = reads_shorter e in
       let p = statement_part d (fresh (suc n) (turn n ∷ k)) (suc n) (turn n ∷ k) (λ l i. refl) (length b) (omega arith) in
       let t = reads_from e (ending e) (omega arith) (suc (suc n)) (again (suc n) ∷ k) (λ j. refl) in
-      let q = before (p.goes_on lead.While (λ j. refl)) refl (close {d = length b} (opened refl refl (ending e) t) refl refl (omega arith)) in
+      let q = before (p.goes_on terminal.While (λ j. refl)) refl (close {d = length b} (opened refl refl (ending e) t) refl refl (omega arith)) in
       record {
         final = ended (suc n) k;
         goes_on = λ l i. refl;
-        part = finish (opened (g lead.Do refl) refl b (after (join p.part q refl) refl refl (omega arith))) h;
+        part = finish (opened (g terminal.Do refl) refl b (after (join p.part q refl) refl refl (omega arith))) h;
       }
   statement_part {b = b} (Statement.for d e f v) σ n k g z h =
       let w = clause_shorter d in
@@ -270,26 +270,26 @@ mutual
       record {
         final = q.final;
         goes_on = q.goes_on;
-        part = finish (opened (g lead.For refl) refl b (join s q.part refl)) h;
+        part = finish (opened (g terminal.For refl) refl b (join s q.part refl)) h;
       }
   statement_part {b = b} (Statement.give d) σ n k g z h =
       let p = optional_part d b (omega arith) n (act ∷ k) (λ j. refl) in
       record {
         final = ended p.until k;
         goes_on = λ l i. refl;
-        part = before (g lead.Return refl) refl (finish (after p.part p.semicolon p.deep (omega arith)) h);
+        part = before (g terminal.Return refl) refl (finish (after p.part p.semicolon p.deep (omega arith)) h);
       }
   statement_part {r = r} {b = b} Statement.break σ n k g z h =
-      record { final = ended n k; goes_on = λ l i. refl; part = before (g lead.Break refl) refl (before refl refl (nothing r z n (ended n k) b h)) }
+      record { final = ended n k; goes_on = λ l i. refl; part = before (g terminal.Break refl) refl (before refl refl (nothing r z n (ended n k) b h)) }
   statement_part {r = r} {b = b} Statement.continue σ n k g z h =
-      record { final = ended n k; goes_on = λ l i. refl; part = before (g lead.Continue refl) refl (before refl refl (nothing r z n (ended n k) b h)) }
+      record { final = ended n k; goes_on = λ l i. refl; part = before (g terminal.Continue refl) refl (before refl refl (nothing r z n (ended n k) b h)) }
 
   pub items_part : {r : ℕ} {a b : Tokens} {x : Body} (d : Items r a b x) (σ : State) (n : ℕ) (k : List Frame)
       → Opens σ (suc n) (block n ∷ k) → (z : ℕ) → z ≤ length b → Itemed r z n σ a b k (items_openers d)
   items_part {r = r} {b = b} Items.none σ n k g z h = record { final = σ; opens = g; part = nothing r z (suc n) σ b h }
   items_part (Items.vars d e) σ n k g z h =
       let y = items_shorter e in
-      let p = vars_part d σ (suc n) (block n ∷ k) (λ t. g (lead.Type t) refl) z (omega arith) in
+      let p = vars_part d σ (suc n) (block n ∷ k) (λ t. g (terminal.Type t) refl) z (omega arith) in
       let q = items_part e (fresh (suc n) (block n ∷ k)) n k (λ l i. refl) z h in
       record { final = q.final; opens = q.opens; part = join p q.part refl }
   items_part (Items.statement d e) σ n k g z h =
@@ -303,9 +303,9 @@ mutual
 pub parameter_part : {r : ℕ} {a b : Tokens} {x : Param} (d : Parameter r a b x) (n : ℕ) (k : List Frame) (z : ℕ)
     → z ≤ length b → Part r r z n (declared n k) a (declared n k) b (parameter_openers d)
 parameter_part {r = r} {b = b} (Parameter.scalar {k = w} {ty = ty} i) n k z h =
-    before (ap (step (declared n k)) (lead_type w ty i)) refl (before refl refl (nothing r z n (declared n k) b h))
+    before (ap (step (declared n k)) (terminal_type w ty i)) refl (before refl refl (nothing r z n (declared n k) b h))
 parameter_part (Parameter.array {k = w} {ty = ty} i d) n k z h =
-    before (ap (step (declared n k)) (lead_type w ty i)) refl (before refl refl (length_part d n k z h))
+    before (ap (step (declared n k)) (terminal_type w ty i)) refl (before refl refl (length_part d n k z h))
 
 pub parameters_part : {r : ℕ} {a b : Tokens} {xs : List Param} (d : Parameters r a b xs) (n : ℕ) (k : List Frame) (z : ℕ)
     → z ≤ length b → Part r r z n (declared n k) a (declared n k) b (parameters_openers d)
@@ -320,21 +320,21 @@ signature_part {r = r} {b = b} Signature.empty n k z h = nothing r z n (declared
 signature_part {r = r} {b = b} Signature.void n k z h = before refl refl (nothing r z n (declared n k) b h)
 signature_part (Signature.parameters d) n k z h = parameters_part d n k z h
 
-result_fresh : (l : Lead) (ret : Option Ty) → result_at l ≡ Some ret → at_fresh l 0 [] ≡ declared 0 []
-result_fresh (lead.Type ty) ret e = refl
-result_fresh lead.Void ret e = refl
+result_fresh : (l : Terminal) (ret : Option Ty) → result_at l ≡ Some ret → at_fresh l 0 [] ≡ declared 0 []
+result_fresh (terminal.Type ty) ret e = refl
+result_fresh terminal.Void ret e = refl
 result_fresh _ ret e = absurd (cc (e))
 
-result_else : (l : Lead) (ret : Option Ty) → result_at l ≡ Some ret → is_else l ≡ false
-result_else lead.Else ret e = absurd (cc (e))
+result_else : (l : Terminal) (ret : Option Ty) → result_at l ≡ Some ret → is_else l ≡ false
+result_else terminal.Else ret e = absurd (cc (e))
 result_else _ ret e = refl
 
 -- the word of a function's result
 pub result_opens : (k : Keyword) (ret : Option Ty) (σ : State) → Opens σ 0 [] → result_word k ≡ Some ret
-    → step σ (keyword_lead k) ≡ declared 0 []
+    → step σ (keyword_terminal k) ≡ declared 0 []
 result_opens k ret σ g e =
-    let l = keyword_lead k in
-    let i = lead_result k ret e in
+    let l = keyword_terminal k in
+    let i = terminal_result k ret e in
     g l (result_else l ret i) ∙ result_fresh l ret i
 
 -- a declaration, a prototype or a definition
@@ -346,7 +346,7 @@ pub record Standing (r z : ℕ) (σ : State) (a b : Tokens) (l : List Opener) : 
 pub external_part : {r : ℕ} {a b : Tokens} {x : Outer} (d : External r a b x) (σ : State) → Opens σ 0 [] → (z : ℕ)
     → z ≤ length b → Standing r z σ a b (external_openers d)
 external_part (External.vars d) σ g z h =
-    record { final = fresh 0 []; opens = λ l i. refl; part = vars_part d σ 0 [] (λ t. g (lead.Type t) refl) z h }
+    record { final = fresh 0 []; opens = λ l i. refl; part = vars_part d σ 0 [] (λ t. g (terminal.Type t) refl) z h }
 external_part (External.prototype {k = w} {ret = ret} i d) σ g z h =
     let c = signature_ending d in
     let p = close {d = z} (opened refl refl c (signature_part d 1 (group 0 ∷ []) (length c) (omega arith))) refl refl (omega arith) in
@@ -357,5 +357,5 @@ external_part (External.definition {k = w} {ret = ret} i d e) σ g z h =
     let q = items_ending e in
     let s = items_part e (fresh 1 (block 0 ∷ [])) 0 [] (λ l j. refl) (length q) (omega arith) in
     let p = close {d = z} (opened refl refl c (signature_part d 1 (group 0 ∷ []) (length c) (omega arith))) refl refl (omega arith) in
-    let t = close (opened refl refl q s.part) (s.opens lead.CloseBrace refl) refl h in
+    let t = close (opened refl refl q s.part) (s.opens terminal.CloseBrace refl) refl h in
     record { final = ended 0 []; opens = λ l j. refl; part = join (before (result_opens w ret σ g i) refl (before refl refl p)) t refl }

@@ -8,29 +8,29 @@ use Rattle.c_tree.specs.declared.place.Span.{Span}
 use Rattle.c_tree.specs.declared.program.Param.{Param}
 use Rattle.c_tree.specs.declared.stmt.Ty.{Ty}
 use Rattle.c_tree.specs.Tree.{Body, Outer}
-use Rattle.c_grammar.specs.declared.lead.Lead.{Lead}
-use Rattle.c_grammar.specs.declared.lead.Lead.TheVariants as lead
+use Rattle.c_grammar.specs.declared.terminal.Terminal.{Terminal}
+use Rattle.c_grammar.specs.declared.terminal.Terminal.TheVariants as terminal
 use Rattle.c_grammar.specs.Operators.{type_word, result_word}
 use Rattle.c_grammar.specs.Grammar.{Tokens, over, Begins}
-use Rattle.c_grammar.specs.Leads.{front, is_void, is_open_bracket, is_semicolon, is_end, result_at, never}
+use Rattle.c_grammar.specs.Terminals.{lookahead, is_void, is_open_bracket, is_semicolon, is_end, result_at, never}
 use Rattle.c_grammar.specs.Programs.{function, Items, Parameter, Parameters, Signature, External, Derives, BeginsStatement, BeginsItems, BeginsParameter, BeginsParameters, BeginsSignature, BeginsExternal, Viable}
 use Rattle.c_grammar.specs.Descent.{Reading, found, unexpected, too_deep, Reader, and_then}
 use Rattle.c_grammar.specs.ProgramDescent.{does, parameter_by, param, params_by, signature, result_by, result, body, ended_by, func, is_func, external_by, externals_by, externals, program}
-use Rattle.c_grammar.proofs.Leads.{end_is, result_is}
+use Rattle.c_grammar.proofs.Terminals.{end_is, result_is}
 use Rattle.c_grammar.proofs.ProgramBasics.{parameter_lift, signature_lift, signature_begun, items_begun, external_lift}
-use Rattle.c_grammar.proofs.Fits.{Fits, Kept, part_fits, kept_fits, as_fits, front_is, front_tells, token_fits, name_opens, type_opens, enters, void_word, open_paren, close_paren, open_bracket, open_brace, close_brace, semicolon}
+use Rattle.c_grammar.proofs.Fits.{Fits, Kept, part_fits, kept_fits, as_fits, lookahead_is, lookahead_tells, token_fits, name_opens, type_opens, enters, void_word, open_paren, close_paren, open_bracket, open_brace, close_brace, semicolon}
 use Rattle.c_grammar.proofs.ListFits.{Listing, listed_fits}
 use Rattle.c_grammar.proofs.DeclarationSound.{bracketed_ok, vars_ok}
 use Rattle.c_grammar.proofs.StatementSound.{items_ok, does_ok}
 
 -- ---- parameters
 
-parameter_by_ok : (x : Bool) (k : Keyword) (o : Span) (ty : Ty) (w : List ℕ) (s : Span) (r : ℕ) (a : Tokens) → is_open_bracket (front a) ≡ x → type_word k ≡ Some ty
+parameter_by_ok : (x : Bool) (k : Keyword) (o : Span) (ty : Ty) (w : List ℕ) (s : Span) (r : ℕ) (a : Tokens) → is_open_bracket (lookahead a) ≡ x → type_word k ≡ Some ty
     → Fits (BeginsParameter r ((kind.Word k, o) ∷ (kind.Name w, s) ∷ a)) (BeginsParameter (suc r) ((kind.Word k, o) ∷ (kind.Name w, s) ∷ a))
     (Kept r (λ x b. Parameter r ((kind.Word k, o) ∷ (kind.Name w, s) ∷ a) b x)) (parameter_by x ty (w, s) r a)
 parameter_by_ok false k o ty w s r a e q = Fits.finds (record { same = refl; is = Parameter.scalar q })
 parameter_by_ok true k o ty w s r a e q =
-    front_is open_bracket (λ z. Fits (BeginsParameter r ((kind.Word k, o) ∷ (kind.Name w, s) ∷ z))
+    lookahead_is open_bracket (λ z. Fits (BeginsParameter r ((kind.Word k, o) ∷ (kind.Name w, s) ∷ z))
     (BeginsParameter (suc r) ((kind.Word k, o) ∷ (kind.Name w, s) ∷ z))
     (Kept r (λ x b. Parameter r ((kind.Word k, o) ∷ (kind.Name w, s) ∷ z) b x)) (parameter_by true ty (w, s) r z)) a e
     (λ i c. kept_fits _ (bracketed_ok r i c) (λ b v. BeginsParameter.array q v) (λ b v. BeginsParameter.array q v)
@@ -41,7 +41,7 @@ param_ok r a =
     type_opens (BeginsParameter r) (BeginsParameter (suc r)) (λ z. Kept r (λ x b. Parameter r z b x)) _ r a BeginsParameter.none
     (λ k ty o c q. name_opens (λ z. BeginsParameter r ((kind.Word k, o) ∷ z)) (λ z. BeginsParameter (suc r) ((kind.Word k, o) ∷ z))
     (λ z. Kept r (λ x b. Parameter r ((kind.Word k, o) ∷ z) b x)) _ r c
-    (BeginsParameter.type q) (λ w s d. parameter_by_ok (is_open_bracket (front d)) k o ty w s r d refl q))
+    (BeginsParameter.type q) (λ w s d. parameter_by_ok (is_open_bracket (lookahead d)) k o ty w s r d refl q))
 
 parameter_lists : (r : ℕ)
     → Listing never (λ a x b. Parameter r a b x) (λ a xs b. Parameters r a b xs) (BeginsParameter r) (BeginsParameter (suc r)) (BeginsParameters r)
@@ -58,11 +58,11 @@ parameter_lists r =
       deeper_more = λ d v. BeginsParameters.more (parameter_lift d) v;
     }
 
-params_by_ok : (l : Lead) (r : ℕ) (a : Tokens) → front a ≡ l → Fits (BeginsSignature r a) (BeginsSignature (suc r) a) (Kept r (λ xs b. Signature r a b xs))
+params_by_ok : (l : Terminal) (r : ℕ) (a : Tokens) → lookahead a ≡ l → Fits (BeginsSignature r a) (BeginsSignature (suc r) a) (Kept r (λ xs b. Signature r a b xs))
     (params_by l r a)
-params_by_ok lead.CloseParen r a e = Fits.finds (record { same = refl; is = Signature.empty })
-params_by_ok lead.Void r a e =
-    front_is void_word (λ z. Fits (BeginsSignature r z) (BeginsSignature (suc r) z) (Kept r (λ xs b. Signature r z b xs)) (params_by lead.Void r z)) a (ap is_void e)
+params_by_ok terminal.CloseParen r a e = Fits.finds (record { same = refl; is = Signature.empty })
+params_by_ok terminal.Void r a e =
+    lookahead_is void_word (λ z. Fits (BeginsSignature r z) (BeginsSignature (suc r) z) (Kept r (λ xs b. Signature r z b xs)) (params_by terminal.Void r z)) a (ap is_void e)
     (λ s c. Fits.finds (record { same = refl; is = Signature.void }))
 params_by_ok _ r a e =
     as_fits (listed_fits (parameter_lists r) (param r) r (param_ok r) _ a) (λ b v. BeginsSignature.parameters v) (λ b v. BeginsSignature.parameters v)
@@ -85,7 +85,7 @@ signature_ok : (r : ℕ) (a : Tokens) → Fits (BeginsSigned r a) (BeginsSigned 
 signature_ok =
     enters open_paren BeginsSigned (λ m z. Kept m (Signed m z)) _ (λ m c. BeginsSigned.none)
     (λ s m c. BeginsSigned.paren (BeginsSignature.parameters (BeginsParameters.last BeginsParameter.none)))
-    (λ s m c. part_fits (params_by_ok (front c) m c refl) (λ b v. BeginsSigned.paren v) (λ b v. BeginsSigned.paren v)
+    (λ s m c. part_fits (params_by_ok (lookahead c) m c refl) (λ b v. BeginsSigned.paren v) (λ b v. BeginsSigned.paren v)
     (λ xs n b d. token_fits close_paren (λ z. Signature m c z xs) _ (suc m) b (BeginsSigned.paren (signature_begun d.is)) d.is
     (λ e z g. Fits.finds (record { same = refl; is = Signed.parens g }))))
 
@@ -135,11 +135,11 @@ signed_lift : {r : ℕ} {a b : Tokens} {xs : List Param} → Signed r a xs b →
 signed_lift (Signed.parens d) = Signed.parens (signature_lift d)
 
 ended_by_ok : (x : Bool) (k : Keyword) (o : Span) (ret : Option Ty) (w : List ℕ) (s : Span) (r : ℕ) (a : Tokens) (xs : List Param) (b : Tokens)
-    → is_semicolon (front b) ≡ x → result_word k ≡ Some ret → Signed r a xs b
+    → is_semicolon (lookahead b) ≡ x → result_word k ≡ Some ret → Signed r a xs b
     → Fits (BeginsExternal r ((kind.Word k, o) ∷ (kind.Name w, s) ∷ a)) (BeginsExternal (suc r) ((kind.Word k, o) ∷ (kind.Name w, s) ∷ a))
     (Kept r (λ x c. External r ((kind.Word k, o) ∷ (kind.Name w, s) ∷ a) c x)) (ended_by x ret (w, s) xs r b)
 ended_by_ok true k o ret w s r a xs b e q d =
-    front_is semicolon (λ z. Signed r a xs z → Fits (BeginsExternal r ((kind.Word k, o) ∷ (kind.Name w, s) ∷ a))
+    lookahead_is semicolon (λ z. Signed r a xs z → Fits (BeginsExternal r ((kind.Word k, o) ∷ (kind.Name w, s) ∷ a))
     (BeginsExternal (suc r) ((kind.Word k, o) ∷ (kind.Name w, s) ∷ a))
     (Kept r (λ x c. External r ((kind.Word k, o) ∷ (kind.Name w, s) ∷ a) c x)) (ended_by true ret (w, s) xs r z)) b e
     (λ i c g. Fits.finds (record { same = refl; is = prototype_is q g })) d
@@ -148,13 +148,13 @@ ended_by_ok false k o ret w s r a xs b e q d =
     (λ x c g. Fits.finds (record { same = refl; is = definition_is q d g }))
 
 result_by_ok : {B : Type 0} (V W : Tokens → Tokens → Type 0) (G : Tokens → B → ℕ → Tokens → Type 0) (f : Option Ty
-    → Reader B) (r : ℕ) (a : Tokens) (x : Option (Option Ty)) → result_at (front a) ≡ x
+    → Reader B) (r : ℕ) (a : Tokens) (x : Option (Option Ty)) → result_at (lookahead a) ≡ x
     → V a a → ((k : Keyword) (ret : Option Ty) (s : Span) (c : Tokens) → result_word k ≡ Some ret
     → Fits (V ((kind.Word k, s) ∷ c)) (W ((kind.Word k, s) ∷ c)) (G ((kind.Word k, s) ∷ c)) (f ret r c))
     → Fits (V a) (W a) (G a) (and_then (result_by x r a) f)
 result_by_ok V W G f r a None e v g = Fits.stops v
 result_by_ok V W G f r a (Some ret) e v g =
-    front_tells kind.Word result_at (λ k y. result_word k ≡ Some y) result_is refl (λ z. Fits (V z) (W z) (G z) (and_then (result_by (Some ret) r z) f)) ret a e
+    lookahead_tells kind.Word result_at (λ k y. result_word k ≡ Some y) result_is refl (λ z. Fits (V z) (W z) (G z) (and_then (result_by (Some ret) r z) f)) ret a e
     (λ k s c q. g k ret s c q)
 
 -- what a function gives, and then what is read after it
@@ -162,7 +162,7 @@ result_opens : {B : Type 0} (V W : Tokens → Tokens → Type 0) (G : Tokens →
     → V a a → ((k : Keyword) (ret : Option Ty) (s : Span) (c : Tokens) → result_word k ≡ Some ret
     → Fits (V ((kind.Word k, s) ∷ c)) (W ((kind.Word k, s) ∷ c)) (G ((kind.Word k, s) ∷ c)) (f ret r c))
     → Fits (V a) (W a) (G a) (and_then (result r a) f)
-result_opens V W G f r a v g = result_by_ok V W G f r a (result_at (front a)) refl v g
+result_opens V W G f r a v g = result_by_ok V W G f r a (result_at (lookahead a)) refl v g
 
 func_ok : (r : ℕ) (a : Tokens) → Fits (BeginsExternal r a) (BeginsExternal (suc r) a) (Kept r (λ x b. External r a b x)) (func r a)
 func_ok r a =
@@ -171,7 +171,7 @@ func_ok r a =
     (λ z. Kept r (λ x b. External r ((kind.Word k, o) ∷ z) b x)) _ r c
     (BeginsExternal.result q)
     (λ w s d. kept_fits _ (signature_ok r d) (λ b v. signature_begins q v) (λ b v. signature_begins q v)
-    (λ xs b g. ended_by_ok (is_semicolon (front b)) k o ret w s r d xs b refl q g)))
+    (λ xs b g. ended_by_ok (is_semicolon (lookahead b)) k o ret w s r d xs b refl q g)))
 
 -- ---- programs
 
@@ -185,7 +185,7 @@ record Whole (r : ℕ) (a : Tokens) (p : List Outer) (b : Tokens) : Type 0 where
   derived : Derives r a p
   ended : b ≡ []
 
-externals_by_ok : (x : Bool) (on : ℕ → Tokens → Reading (List Outer)) (r : ℕ) (a : Tokens) (y : Outer) (b : Tokens) → is_end (front b) ≡ x → External r a b y
+externals_by_ok : (x : Bool) (on : ℕ → Tokens → Reading (List Outer)) (r : ℕ) (a : Tokens) (y : Outer) (b : Tokens) → is_end (lookahead b) ≡ x → External r a b y
     → Fits (Viable r b) (Viable (suc r) b) (Kept r (Whole r b)) (on r b) → Fits (Viable r a) (Viable (suc r) a) (Kept r (Whole r a)) (externals_by x on y r b)
 externals_by_ok true on r a y b e d h = Fits.finds (record {
   same = refl;
@@ -201,7 +201,7 @@ unfolding externals
 externals_ok zero r a = Fits.stops (Viable.external BeginsExternal.none)
 externals_ok (suc n) r a =
     kept_fits _ (external_by_ok (is_func a) r a) (λ b v. Viable.external v) (λ b v. Viable.external v)
-    (λ y b d. externals_by_ok (is_end (front b)) (externals n) r a y b refl d (externals_ok n r b))
+    (λ y b d. externals_by_ok (is_end (lookahead b)) (externals n) r a y b refl d (externals_ok n r b))
 
 -- What is found is a program. Where a token isn't expected, what comes before begins one; where it is nested too deep, with one more
 -- room that token does as well.

@@ -3,10 +3,10 @@
 use Rattle.std.proofs.Common.{◌≡◌, ℕ, suc, ◌≤◌, ◌<◌, Bool, true, false, List, [], ◌∷◌, inl, inr, ap, sym, subst, ◌∙◌, arith, length}
 use Rattle.c_lex.specs.declared.token.TokenKind.{TokenKind}
 use Rattle.c_tree.specs.declared.place.Span.{Span}
-use Rattle.c_grammar.specs.declared.lead.Lead.{Lead}
-use Rattle.c_grammar.specs.declared.lead.Lead.TheVariants as lead
+use Rattle.c_grammar.specs.declared.terminal.Terminal.{Terminal}
+use Rattle.c_grammar.specs.declared.terminal.Terminal.TheVariants as terminal
 use Rattle.c_grammar.specs.Grammar.{Tokens}
-use Rattle.c_grammar.specs.Leads.{lead_of, front, is_else}
+use Rattle.c_grammar.specs.Terminals.{terminal_of, lookahead, is_else}
 use Rattle.c_grammar.proofs.Nested.{larger}
 
 -- ---- what is open
@@ -109,32 +109,32 @@ by_type (group m ∷ k) n = casting n k
 by_type k n = declared n k
 
 -- where an operand begins
-abbrev pub at_operand : Lead → ℕ → List Frame → State
-at_operand lead.OpenParen n k = operand (suc n) (group n ∷ k)
-at_operand lead.OpenBrace n k = operand (suc n) (list n ∷ k)
-at_operand (lead.Prefix f) n k = operand (suc n) k
-at_operand (lead.Binary f) n k = operand (suc n) k
-at_operand (lead.Bump up) n k = operand (suc n) k
-at_operand (lead.Type ty) n k = by_type k n
-at_operand lead.CloseParen n k = shut k n
-at_operand lead.CloseBracket n k = shut k n
-at_operand lead.CloseBrace n k = shut k n
-at_operand lead.Semicolon n k = shut k n
+abbrev pub at_operand : Terminal → ℕ → List Frame → State
+at_operand terminal.OpenParen n k = operand (suc n) (group n ∷ k)
+at_operand terminal.OpenBrace n k = operand (suc n) (list n ∷ k)
+at_operand (terminal.Prefix f) n k = operand (suc n) k
+at_operand (terminal.Binary f) n k = operand (suc n) k
+at_operand (terminal.Bump up) n k = operand (suc n) k
+at_operand (terminal.Type ty) n k = by_type k n
+at_operand terminal.CloseParen n k = shut k n
+at_operand terminal.CloseBracket n k = shut k n
+at_operand terminal.CloseBrace n k = shut k n
+at_operand terminal.Semicolon n k = shut k n
 at_operand _ n k = operated n k
 
 -- where an operand has ended
-abbrev pub at_operated : Lead → ℕ → List Frame → State
-at_operated lead.OpenParen n k = operand (suc n) (call n ∷ k)
-at_operated lead.OpenBracket n k = operand (suc n) (group n ∷ k)
-at_operated (lead.Binary f) n k = operand (suc n) k
-at_operated (lead.Assign f) n k = operand (suc n) k
-at_operated lead.Question n k = operand (suc n) (pick ∷ k)
-at_operated lead.Colon n k = by_colon k n
-at_operated lead.Comma n k = by_comma k n
-at_operated lead.CloseParen n k = shut k n
-at_operated lead.CloseBracket n k = shut k n
-at_operated lead.CloseBrace n k = shut k n
-at_operated lead.Semicolon n k = shut k n
+abbrev pub at_operated : Terminal → ℕ → List Frame → State
+at_operated terminal.OpenParen n k = operand (suc n) (call n ∷ k)
+at_operated terminal.OpenBracket n k = operand (suc n) (group n ∷ k)
+at_operated (terminal.Binary f) n k = operand (suc n) k
+at_operated (terminal.Assign f) n k = operand (suc n) k
+at_operated terminal.Question n k = operand (suc n) (pick ∷ k)
+at_operated terminal.Colon n k = by_colon k n
+at_operated terminal.Comma n k = by_comma k n
+at_operated terminal.CloseParen n k = shut k n
+at_operated terminal.CloseBracket n k = shut k n
+at_operated terminal.CloseBrace n k = shut k n
+at_operated terminal.Semicolon n k = shut k n
 at_operated _ n k = operated n k
 
 -- at the closing bracket of a length or of parameters
@@ -143,14 +143,14 @@ ungrouped (group m ∷ k) n = declared m k
 ungrouped k n = declared n k
 
 -- in a declaration, or in parameters
-abbrev pub at_declared : Lead → ℕ → List Frame → State
-at_declared (lead.Assign f) n k = operand n (start n ∷ k)
-at_declared lead.OpenParen n k = declared (suc n) (group n ∷ k)
-at_declared lead.OpenBracket n k = declared (suc n) (group n ∷ k)
-at_declared lead.OpenBrace n k = fresh (suc n) (block n ∷ k)
-at_declared lead.CloseParen n k = ungrouped k n
-at_declared lead.CloseBracket n k = ungrouped k n
-at_declared lead.Semicolon n k = vars_end k n
+abbrev pub at_declared : Terminal → ℕ → List Frame → State
+at_declared (terminal.Assign f) n k = operand n (start n ∷ k)
+at_declared terminal.OpenParen n k = declared (suc n) (group n ∷ k)
+at_declared terminal.OpenBracket n k = declared (suc n) (group n ∷ k)
+at_declared terminal.OpenBrace n k = fresh (suc n) (block n ∷ k)
+at_declared terminal.CloseParen n k = ungrouped k n
+at_declared terminal.CloseBracket n k = ungrouped k n
+at_declared terminal.Semicolon n k = vars_end k n
 at_declared _ n k = declared n k
 
 -- at the `}` of a block
@@ -159,19 +159,19 @@ unblocked (block m ∷ k) n = ended m k
 unblocked k n = ended n k
 
 -- where a statement, an item or a declaration may begin
-abbrev pub at_fresh : Lead → ℕ → List Frame → State
-at_fresh lead.Semicolon n k = ended n k
-at_fresh lead.OpenBrace n k = fresh (suc n) (block n ∷ k)
-at_fresh lead.CloseBrace n k = unblocked k n
-at_fresh lead.If n k = head of_test (suc n) (branch n ∷ k)
-at_fresh lead.While n k = head of_test (suc n) (body n ∷ k)
-at_fresh lead.Do n k = fresh (suc n) (turn n ∷ k)
-at_fresh lead.For n k = head of_clauses (suc n) (body n ∷ k)
-at_fresh lead.Return n k = operand n (act ∷ k)
-at_fresh lead.Break n k = operated n (act ∷ k)
-at_fresh lead.Continue n k = operated n (act ∷ k)
-at_fresh (lead.Type ty) n k = declared n k
-at_fresh lead.Void n k = declared n k
+abbrev pub at_fresh : Terminal → ℕ → List Frame → State
+at_fresh terminal.Semicolon n k = ended n k
+at_fresh terminal.OpenBrace n k = fresh (suc n) (block n ∷ k)
+at_fresh terminal.CloseBrace n k = unblocked k n
+at_fresh terminal.If n k = head of_test (suc n) (branch n ∷ k)
+at_fresh terminal.While n k = head of_test (suc n) (body n ∷ k)
+at_fresh terminal.Do n k = fresh (suc n) (turn n ∷ k)
+at_fresh terminal.For n k = head of_clauses (suc n) (body n ∷ k)
+at_fresh terminal.Return n k = operand n (act ∷ k)
+at_fresh terminal.Break n k = operated n (act ∷ k)
+at_fresh terminal.Continue n k = operated n (act ∷ k)
+at_fresh (terminal.Type ty) n k = declared n k
+at_fresh terminal.Void n k = declared n k
 at_fresh l n k = at_operand l n (act ∷ k)
 
 -- after the statement of an `if`, by whether an `else` follows
@@ -180,7 +180,7 @@ by_else true m k σ = fresh (suc m) (body m ∷ k)
 by_else false m k σ = σ
 
 -- where a statement has ended
-abbrev pub at_ended : List Frame → Lead → State
+abbrev pub at_ended : List Frame → Terminal → State
 at_ended [] l = at_fresh l 0 []
 at_ended (branch m ∷ k) l = by_else (is_else l) m k (at_ended k l)
 at_ended (body m ∷ k) l = at_ended k l
@@ -195,7 +195,7 @@ at_head of_again n k = operand (suc n) (again n ∷ k)
 at_head of_clauses n k = operand (suc n) (first n ∷ k)
 
 -- where the scanner stands after a token
-abbrev pub step : State → Lead → State
+abbrev pub step : State → Terminal → State
 step (fresh n k) l = at_fresh l n k
 step (ended n k) l = at_ended k l
 step (operand n k) l = at_operand l n k
@@ -209,7 +209,7 @@ step (head h n k) l = at_head h n k
 -- Scans f σ a τ b: over the tokens from a down to b the scanner goes from σ to τ, and f is the nesting at each.
 pub data Scans (f : Tokens → ℕ) : State → Tokens → State → Tokens → Type 0 where
   stop : {σ : State} {a : Tokens} → Scans f σ a σ a
-  token : {σ τ υ : State} {x : TokenKind × Span} {a b : Tokens} → step σ (lead_of x.0) ≡ τ → depth τ ≡ f (x ∷ a)
+  token : {σ τ υ : State} {x : TokenKind × Span} {a b : Tokens} → step σ (terminal_of x.0) ≡ τ → depth τ ≡ f (x ∷ a)
       → Scans f τ a υ b → Scans f σ (x ∷ a) υ b
 
 pub scans_shorter : {f : Tokens → ℕ} {σ τ : State} {a b : Tokens} → Scans f σ a τ b → length b ≤ length a
@@ -230,7 +230,7 @@ scans_same (Scans.token {x = x} {a = a} e h z) q =
 
 -- from a state that goes on with the first token in the same way
 pub scans_enter : {f : Tokens → ℕ} {σ τ : State} {a b : Tokens} (υ : State) → Scans f σ a τ b → length b < length a
-    → step υ (front a) ≡ step σ (front a) → Scans f υ a τ b
+    → step υ (lookahead a) ≡ step σ (lookahead a) → Scans f υ a τ b
 scans_enter υ Scans.stop h q = absurd (omega arith)
 scans_enter υ (Scans.token e h z) l q = Scans.token (q ∙ e) h z
 

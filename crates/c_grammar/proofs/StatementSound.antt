@@ -6,29 +6,30 @@ use Rattle.c_lex.specs.declared.token.Keyword.TheVariants as key
 use Rattle.c_lex.specs.declared.token.Punct.TheVariants as mark
 use Rattle.c_tree.specs.declared.place.Span.{Span}
 use Rattle.c_tree.specs.declared.stmt.Ty.{Ty}
+use Rattle.c_tree.specs.Parts.{span_of_code}
 use Rattle.c_tree.specs.Tree as tree
 use Rattle.c_tree.specs.Tree.{Tree, Variable, First, Code, Body}
-use Rattle.c_grammar.specs.declared.lead.Lead.{Lead}
-use Rattle.c_grammar.specs.declared.lead.Lead.TheVariants as lead
-use Rattle.c_grammar.specs.declared.part.Part.TheVariants.{Expression}
+use Rattle.c_grammar.specs.declared.terminal.Terminal.{Terminal}
+use Rattle.c_grammar.specs.declared.terminal.Terminal.TheVariants as terminal
+use Rattle.c_grammar.specs.declared.nonterminal.Nonterminal.TheVariants.{Expression}
 use Rattle.c_grammar.specs.Grammar.{Tokens, over, Begins}
-use Rattle.c_grammar.specs.Leads.{lead_of, front, is_else, is_close_brace, is_semicolon, is_open_brace}
-use Rattle.c_grammar.specs.Programs.{code_span, Vars, Optional, Statement, Items, BeginsStatement, BeginsItems}
+use Rattle.c_grammar.specs.Terminals.{terminal_of, lookahead, is_else, is_close_brace, is_semicolon, is_open_brace}
+use Rattle.c_grammar.specs.Programs.{Vars, Optional, Statement, Items, BeginsStatement, BeginsItems}
 use Rattle.c_grammar.specs.Descent.{Reading, found, too_deep}
 use Rattle.c_grammar.specs.ProgramDescent.{act, give, break, continue, empty, append, item_by, items_by, items_within, items, block, otherwise_by, branch, while_loop, do_loop, for_loop, statement_by, statement, does}
-use Rattle.c_grammar.proofs.Leads.{told}
-use Rattle.c_grammar.proofs.Basics.{reads_begun}
+use Rattle.c_grammar.proofs.Terminals.{terminal_shows}
+use Rattle.c_grammar.proofs.ExpressionBasics.{reads_begun}
 use Rattle.c_grammar.proofs.ProgramBasics.{vars_lift, optional_begun, statement_lift, statement_begun, items_begun}
-use Rattle.c_grammar.proofs.Fits.{Fits, Kept, part_fits, kept_fits, front_is, token_fits, token_opens, else_word, while_word, open_brace, close_brace, semicolon}
+use Rattle.c_grammar.proofs.Fits.{Fits, Kept, part_fits, kept_fits, lookahead_is, token_fits, token_opens, else_word, while_word, open_brace, close_brace, semicolon}
 use Rattle.c_grammar.proofs.DeclarationSound.{Valued, value_ok, vars_ok, Tested, BeginsTested, tested_lift, tested_ok, optional_ok, Clauses, BeginsClauses, clauses_lift, clauses_ok}
 
--- a statement, behind which no `else` comes that would belong to it
+-- a statement, after which no `else` comes that would belong to it
 pub record Stands (r : ℕ) (a : Tokens) (c : Code) (b : Tokens) : Type 0 where
   pub open_end : Bool
   pub derived : Statement open_end r a b c
-  pub closed : open_end ≡ true → is_else (front b) ≡ false
+  pub closed : open_end ≡ true → is_else (lookahead b) ≡ false
 
--- what is found is a statement, with the room behind it that there was before; where it isn't, what comes before begins one
+-- what is found is a statement, with the room after it that there was before; where it isn't, what comes before begins one
 abbrev pub StatementSound : ℕ → Tokens → Reading Code → Type 0
 StatementSound r a o = Fits (BeginsStatement r a) (BeginsStatement (suc r) a) (Kept r (Stands r a)) o
 
@@ -37,16 +38,16 @@ finds_closed : {r : ℕ} {a b : Tokens} {c : Code} → Statement false r a b c �
 finds_closed d = Fits.finds (record { same = refl; is = record { open_end = false; derived = d; closed = λ e. absurd (cc (e)) } })
 
 -- the statement is not open where an `else` comes
-closed_by : {r : ℕ} {a b : Tokens} {c : Code} (o : Bool) → Statement o r a b c → (o ≡ true → is_else (front b) ≡ false) → is_else (front b) ≡ true
+closed_by : {r : ℕ} {a b : Tokens} {c : Code} (o : Bool) → Statement o r a b c → (o ≡ true → is_else (lookahead b) ≡ false) → is_else (lookahead b) ≡ true
     → Statement false r a b c
 closed_by false d h e = d
 closed_by true d h e = let x = h refl in absurd (cc (x, e))
 
--- the next token is of that kind, which its lead tells
-front_shows : (l : Lead) (K : TokenKind) → ((k : TokenKind) → lead_of k ≡ l → k ≡ K) → (lead.End ≡ l → ⊥) → (M : Tokens → Type 0) (a : Tokens) → front a ≡ l
+-- the next token is of that kind, which its terminal tells
+lookahead_shows : (l : Terminal) (K : TokenKind) → ((k : TokenKind) → terminal_of k ≡ l → k ≡ K) → (terminal.End ≡ l → ⊥) → (M : Tokens → Type 0) (a : Tokens) → lookahead a ≡ l
     → ((s : Span) (c : Tokens) → M ((K, s) ∷ c)) → M a
-front_shows l K only end M [] e g = absurd (end e)
-front_shows l K only end M ((k, s) ∷ a) e g = subst (λ z. M ((z, s) ∷ a)) (sym (only k e)) (g s a)
+lookahead_shows l K only end M [] e g = absurd (end e)
+lookahead_shows l K only end M ((k, s) ∷ a) e g = subst (λ z. M ((z, s) ∷ a)) (sym (only k e)) (g s a)
 
 -- ---- statements without parts that are statements
 
@@ -117,16 +118,16 @@ turn_begins (Clauses.parens d e f) v = BeginsStatement.for d e f v
 -- ---- statements with parts
 
 if_then_is : {o : Bool} {r : ℕ} {s : Span} {a b c : Tokens} {t : Tree} {y : Code} → Tested r a t b → Statement o r b c y
-    → Statement true (suc r) ((kind.Word key.If, s) ∷ a) c (tree.if_then t y (over s (code_span y)))
+    → Statement true (suc r) ((kind.Word key.If, s) ∷ a) c (tree.if_then t y (over s (span_of_code y)))
 if_then_is (Tested.test d) x = Statement.if_then d x
 
 if_else_is : {o : Bool} {r : ℕ} {s q : Span} {a b c d : Tokens} {t : Tree} {y z : Code} → Tested r a t b → Statement false r b ((kind.Word key.Else, q) ∷ c) y
     → Statement o r c d z
-    → Statement o (suc r) ((kind.Word key.If, s) ∷ a) d (tree.if_else t y z (over s (code_span z)))
+    → Statement o (suc r) ((kind.Word key.If, s) ∷ a) d (tree.if_else t y z (over s (span_of_code z)))
 if_else_is (Tested.test d) x y = Statement.if_else d x y
 
 while_is : {o : Bool} {r : ℕ} {s : Span} {a b c : Tokens} {t : Tree} {y : Code} → Tested r a t b → Statement o r b c y
-    → Statement o (suc r) ((kind.Word key.While, s) ∷ a) c (tree.while t y (over s (code_span y)))
+    → Statement o (suc r) ((kind.Word key.While, s) ∷ a) c (tree.while t y (over s (span_of_code y)))
 while_is (Tested.test d) x = Statement.while d x
 
 do_while_is : {o : Bool} {r : ℕ} {s w q : Span} {a b c : Tokens} {t : Tree} {y : Code} → Statement o r a ((kind.Word key.While, w) ∷ b) y
@@ -135,7 +136,7 @@ do_while_is : {o : Bool} {r : ℕ} {s w q : Span} {a b c : Tokens} {t : Tree} {y
 do_while_is d (Tested.test x) = Statement.do_while d x
 
 for_is : {o : Bool} {r : ℕ} {s : Span} {a b c : Tokens} {i : First} {t u : Option Tree} {y : Code} → Clauses r a i t u b → Statement o r b c y
-    → Statement o (suc r) ((kind.Word key.For, s) ∷ a) c (tree.for i t u y (over s (code_span y)))
+    → Statement o (suc r) ((kind.Word key.For, s) ∷ a) c (tree.for i t u y (over s (span_of_code y)))
 for_is (Clauses.parens d e f) x = Statement.for d e f x
 
 -- an item of a block, as a body
@@ -156,8 +157,8 @@ item_before (Item.vars d) e = Items.vars d e
 item_before (Item.code d) e = Items.statement d e
 
 module _ (self : Tokens → Reading Code) (r : ℕ) (H : (a : Tokens) → StatementSound r a (self a)) where
-  item_by_ok : (l : Lead) (a : Tokens) → Fits (BeginsItems r a) (BeginsItems (suc r) a) (Kept r (Item r a)) (item_by self l r a)
-  item_by_ok (lead.Type ty) a = part_fits (vars_ok r a) (λ b v. BeginsItems.vars v) (λ b v. BeginsItems.vars v)
+  item_by_ok : (l : Terminal) (a : Tokens) → Fits (BeginsItems r a) (BeginsItems (suc r) a) (Kept r (Item r a)) (item_by self l r a)
+  item_by_ok (terminal.Type ty) a = part_fits (vars_ok r a) (λ b v. BeginsItems.vars v) (λ b v. BeginsItems.vars v)
       (λ x m b d. Fits.finds (record { same = d.same; is = Item.vars d.is }))
   item_by_ok _ a = part_fits (H a) (λ b v. BeginsItems.statement v) (λ b v. BeginsItems.statement v)
       (λ x m b d. Fits.finds (record { same = d.same; is = Item.code d.is.derived }))
@@ -167,14 +168,14 @@ module _ (self : Tokens → Reading Code) (r : ℕ) (H : (a : Tokens) → Statem
       → Fits (BeginsItems r a) (BeginsItems (suc r) a) (Kept r (λ y c. Items r a c y)) (items_by self x on r a)
   items_by_ok true on a h = Fits.finds (record { same = refl; is = Items.none })
   items_by_ok false on a h =
-      kept_fits _ (item_by_ok (front a) a) (λ b v. v) (λ b v. v)
+      kept_fits _ (item_by_ok (lookahead a) a) (λ b v. v) (λ b v. v)
       (λ x b d. part_fits (h b) (λ c v. item_begins d v) (λ c v. item_begins (item_lift d) v)
       (λ y m c k. Fits.finds (record { same = k.same; is = item_before d k.is })))
 
   items_within_ok : (n : ℕ) (a : Tokens) → Fits (BeginsItems r a) (BeginsItems (suc r) a) (Kept r (λ y c. Items r a c y)) (items_within self n r a)
   unfolding items_within
   items_within_ok zero a = Fits.stops (BeginsItems.statement (BeginsStatement.act Begins.none))
-  items_within_ok (suc n) a = items_by_ok (is_close_brace (front a)) (items_within self n) a (items_within_ok n)
+  items_within_ok (suc n) a = items_by_ok (is_close_brace (lookahead a)) (items_within self n) a (items_within_ok n)
 
   pub items_ok : (a : Tokens) → Fits (BeginsItems r a) (BeginsItems (suc r) a) (Kept r (λ y c. Items r a c y)) (items self r a)
   items_ok a = items_within_ok _ a
@@ -184,11 +185,11 @@ module _ (self : Tokens → Reading Code) (r : ℕ) (H : (a : Tokens) → Statem
       kept_fits _ (items_ok a) (λ b v. BeginsStatement.block v) (λ b v. BeginsStatement.block v)
       (λ body b d. token_fits close_brace (λ z. Items r a z body) _ (suc r) b (BeginsStatement.block (items_begun d)) d (λ e c g. finds_closed (Statement.block g)))
 
-  otherwise_ok : (x : Bool) (s : Span) (a : Tokens) (t : Tree) (b : Tokens) (y : Code) (c : Tokens) → is_else (front c) ≡ x → Tested r a t b → Stands r b y c
+  otherwise_ok : (x : Bool) (s : Span) (a : Tokens) (t : Tree) (b : Tokens) (y : Code) (c : Tokens) → is_else (lookahead c) ≡ x → Tested r a t b → Stands r b y c
       → StatementSound (suc r) ((kind.Word key.If, s) ∷ a) (otherwise_by self (suc r) x s t y r c)
   otherwise_ok false s a t b y c e d k = Fits.finds (record { same = refl; is = record { open_end = true; derived = if_then_is d k.derived; closed = λ i. e } })
   otherwise_ok true s a t b y c e d k =
-      front_is else_word (λ z. Statement false r b z y → StatementSound (suc r) ((kind.Word key.If, s) ∷ a) (otherwise_by self (suc r) true s t y r z)) c e
+      lookahead_is else_word (λ z. Statement false r b z y → StatementSound (suc r) ((kind.Word key.If, s) ∷ a) (otherwise_by self (suc r) true s t y r z)) c e
       (λ q c x. kept_fits _ (H c) (λ z v. else_begins d x v) (λ z v. else_begins (tested_lift d) (statement_lift x) v)
       (λ z c k. Fits.finds (record { same = refl; is = record { open_end = k.open_end; derived = if_else_is d x k.derived; closed = k.closed } })))
       (closed_by k.open_end k.derived k.closed e)
@@ -196,7 +197,7 @@ module _ (self : Tokens → Reading Code) (r : ℕ) (H : (a : Tokens) → Statem
   branch_ok : (s : Span) (a : Tokens) → StatementSound (suc r) ((kind.Word key.If, s) ∷ a) (branch self (suc r) ((kind.Word key.If, s) ∷ a))
   branch_ok s a =
       kept_fits _ (tested_ok r a) (λ b v. if_begins v) (λ b v. if_begins v)
-      (λ t b d. kept_fits _ (H b) (λ c v. then_begins d v) (λ c v. then_begins (tested_lift d) v) (λ y c k. otherwise_ok (is_else (front c)) s a t b y c refl d k))
+      (λ t b d. kept_fits _ (H b) (λ c v. then_begins d v) (λ c v. then_begins (tested_lift d) v) (λ y c k. otherwise_ok (is_else (lookahead c)) s a t b y c refl d k))
 
   while_loop_ok : (s : Span) (a : Tokens) → StatementSound (suc r) ((kind.Word key.While, s) ∷ a) (while_loop self (suc r) ((kind.Word key.While, s) ∷ a))
   while_loop_ok s a =
@@ -241,29 +242,29 @@ some_room : (self : Tokens → Reading Code) (r : ℕ) → ((a : Tokens) → Sta
 some_room self r H =
     record { block_is = block_ok self r H; branch_is = branch_ok self r H; while_loop_is = while_loop_ok self r H; do_loop_is = do_loop_ok self r H; for_loop_is = for_loop_ok self r H }
 
-statement_by_ok : (self : Tokens → Reading Code) (r : ℕ) → Opens self r → (l : Lead) (a : Tokens) → front a ≡ l → StatementSound r a (statement_by self l r a)
-statement_by_ok self r o lead.Semicolon a e = front_is semicolon (λ z. StatementSound r z (empty r z)) a (ap is_semicolon e) (λ s c. empty_ok r s c)
-statement_by_ok self r o lead.OpenBrace a e = front_is open_brace (λ z. StatementSound r z (block self r z)) a (ap is_open_brace e) (λ s c. o.block_is s c)
-statement_by_ok self r o lead.If a e =
-    front_shows lead.If (kind.Word key.If) (λ k i. told k lead.If i) (λ i. cc (i)) (λ z. StatementSound r z (branch self r z)) a e (λ s c. o.branch_is s c)
-statement_by_ok self r o lead.While a e =
-    front_shows lead.While (kind.Word key.While) (λ k i. told k lead.While i) (λ i. cc (i)) (λ z. StatementSound r z (while_loop self r z)) a e
+statement_by_ok : (self : Tokens → Reading Code) (r : ℕ) → Opens self r → (l : Terminal) (a : Tokens) → lookahead a ≡ l → StatementSound r a (statement_by self l r a)
+statement_by_ok self r o terminal.Semicolon a e = lookahead_is semicolon (λ z. StatementSound r z (empty r z)) a (ap is_semicolon e) (λ s c. empty_ok r s c)
+statement_by_ok self r o terminal.OpenBrace a e = lookahead_is open_brace (λ z. StatementSound r z (block self r z)) a (ap is_open_brace e) (λ s c. o.block_is s c)
+statement_by_ok self r o terminal.If a e =
+    lookahead_shows terminal.If (kind.Word key.If) (λ k i. terminal_shows k terminal.If i) (λ i. cc (i)) (λ z. StatementSound r z (branch self r z)) a e (λ s c. o.branch_is s c)
+statement_by_ok self r o terminal.While a e =
+    lookahead_shows terminal.While (kind.Word key.While) (λ k i. terminal_shows k terminal.While i) (λ i. cc (i)) (λ z. StatementSound r z (while_loop self r z)) a e
     (λ s c. o.while_loop_is s c)
-statement_by_ok self r o lead.Do a e =
-    front_shows lead.Do (kind.Word key.Do) (λ k i. told k lead.Do i) (λ i. cc (i)) (λ z. StatementSound r z (do_loop self r z)) a e (λ s c. o.do_loop_is s c)
-statement_by_ok self r o lead.For a e =
-    front_shows lead.For (kind.Word key.For) (λ k i. told k lead.For i) (λ i. cc (i)) (λ z. StatementSound r z (for_loop self r z)) a e (λ s c. o.for_loop_is s c)
-statement_by_ok self r o lead.Return a e =
-    front_shows lead.Return (kind.Word key.Return) (λ k i. told k lead.Return i) (λ i. cc (i)) (λ z. StatementSound r z (give r z)) a e (λ s c. give_ok r s c)
-statement_by_ok self r o lead.Break a e =
-    front_shows lead.Break (kind.Word key.Break) (λ k i. told k lead.Break i) (λ i. cc (i)) (λ z. StatementSound r z (break r z)) a e (λ s c. break_ok r s c)
-statement_by_ok self r o lead.Continue a e =
-    front_shows lead.Continue (kind.Word key.Continue) (λ k i. told k lead.Continue i) (λ i. cc (i)) (λ z. StatementSound r z (continue r z)) a e
+statement_by_ok self r o terminal.Do a e =
+    lookahead_shows terminal.Do (kind.Word key.Do) (λ k i. terminal_shows k terminal.Do i) (λ i. cc (i)) (λ z. StatementSound r z (do_loop self r z)) a e (λ s c. o.do_loop_is s c)
+statement_by_ok self r o terminal.For a e =
+    lookahead_shows terminal.For (kind.Word key.For) (λ k i. terminal_shows k terminal.For i) (λ i. cc (i)) (λ z. StatementSound r z (for_loop self r z)) a e (λ s c. o.for_loop_is s c)
+statement_by_ok self r o terminal.Return a e =
+    lookahead_shows terminal.Return (kind.Word key.Return) (λ k i. terminal_shows k terminal.Return i) (λ i. cc (i)) (λ z. StatementSound r z (give r z)) a e (λ s c. give_ok r s c)
+statement_by_ok self r o terminal.Break a e =
+    lookahead_shows terminal.Break (kind.Word key.Break) (λ k i. terminal_shows k terminal.Break i) (λ i. cc (i)) (λ z. StatementSound r z (break r z)) a e (λ s c. break_ok r s c)
+statement_by_ok self r o terminal.Continue a e =
+    lookahead_shows terminal.Continue (kind.Word key.Continue) (λ k i. terminal_shows k terminal.Continue i) (λ i. cc (i)) (λ z. StatementSound r z (continue r z)) a e
     (λ s c. continue_ok r s c)
 statement_by_ok self r o _ a e = act_ok r a
 
 statement_ok : (self : Tokens → Reading Code) (r : ℕ) → Opens self r → (a : Tokens) → StatementSound r a (statement self r a)
-statement_ok self r o a = statement_by_ok self r o (front a) a refl
+statement_ok self r o a = statement_by_ok self r o (lookahead a) a refl
 
 -- with that room, what is read is a statement
 pub does_ok : (r : ℕ) (a : Tokens) → StatementSound r a (does r a)

@@ -10,10 +10,10 @@ use Rattle.c_grammar.specs.BegunNesting.{viable_openers, PassesAt, Passes}
 use Rattle.c_grammar.specs.Programs.{Viable}
 use Rattle.c_grammar.specs.Rooms.{Along}
 use Rattle.c_grammar.proofs.Nested.{larger}
-use Rattle.c_grammar.proofs.Fronts.{Tail, all, later}
-use Rattle.c_grammar.proofs.ProgramFronts.{tail_viable, viable_front}
-use Rattle.c_grammar.proofs.FrontNesting.{viable_fit, front_nesting_within}
-use Rattle.c_grammar.proofs.BegunLowered.{front_nesting_suffices}
+use Rattle.c_grammar.proofs.ExpressionPrefixes.{Tail, all, later}
+use Rattle.c_grammar.proofs.ProgramPrefixes.{tail_viable, viable_prefix}
+use Rattle.c_grammar.proofs.ViableNesting.{viable_fit, viable_nesting_within}
+use Rattle.c_grammar.proofs.BegunLowered.{viable_nesting_suffices}
 use Rattle.c_grammar.proofs.NestingAt.{nesting_length, one_nesting}
 
 -- ---- tokens before others
@@ -43,7 +43,7 @@ all_along l r h (Along.also {o = o} {k = k} x y) = All-cons (λ p. nesting l p.0
 -- what nests nowhere deeper than r begins a program with room r
 enough : {s : ℕ} {a b : Tokens} (r : ℕ) (d : Viable s a b)
     → ((c : Tokens) → length b < length c → nesting (viable_openers d) c ≤ r) → Viable r a b
-enough {s} {a} {b} r d h = let g = viable_fit d in front_nesting_suffices r s a b d (all_along (viable_openers d) r h g.fits.along)
+enough {s} {a} {b} r d h = let g = viable_fit d in viable_nesting_suffices r s a b d (all_along (viable_openers d) r h g.fits.along)
 
 -- at a token, or before it
 up_to : (r : ℕ) (x : TokenKind × Span) (b : Tokens) (l : List Opener) → nesting l (x ∷ b) ≤ r
@@ -68,13 +68,13 @@ deep_passes r a (x ∷ c) h =
     within : (e : Tokens) → length (x ∷ c) < length e → nesting (viable_openers h.1.0) e ≤ r
     within e i =
         let q = one_nesting (suc r) r a c (x ∷ c) h.1.0 h.0 e (omega arith) i in
-        let w = front_nesting_within r a (x ∷ c) h.0 e in
+        let w = viable_nesting_within r a (x ∷ c) h.0 e in
         omega arith
 
     deeper : (nesting (viable_openers h.1.0) (x ∷ c) ≤ r) ⊎ (r < nesting (viable_openers h.1.0) (x ∷ c))
         → nesting (viable_openers h.1.0) (x ∷ c) ≡ suc r
     deeper (inl i) = absurd (h.1.1 (enough r h.1.0 (up_to r x c (viable_openers h.1.0) i within)))
-    deeper (inr i) = let w = front_nesting_within (suc r) a c h.1.0 (x ∷ c) in omega arith
+    deeper (inr i) = let w = viable_nesting_within (suc r) a c h.1.0 (x ∷ c) in omega arith
 
 passed_deep : (r : ℕ) (a : Tokens) (x : TokenKind × Span) (c : Tokens) → PassesAt r a x c
     → Judged r a (too_deep_at (x ∷ c))
@@ -87,14 +87,14 @@ passed_deep r a x c h = (earlier, (begun, refused))
     refused : Viable r a c → ⊥
     refused d =
         let q = one_nesting r h.room a c c d h.begins (x ∷ c) (omega arith) (omega arith) in
-        let w = front_nesting_within r a c d (x ∷ c) in
+        let w = viable_nesting_within r a c d (x ∷ c) in
         let y = h.deeper in
         omega arith
 
     earlier : Viable r a (x ∷ c)
     earlier =
         let t : Tail a (x ∷ c) = subst (λ z. Tail z (x ∷ c)) (sym h.splits) (tail_of h.earlier (x ∷ c)) in
-        let v : Viable h.room a (x ∷ c) = viable_front h.begins t (later all) in
+        let v : Viable h.room a (x ∷ c) = viable_prefix h.begins t (later all) in
         enough r v (λ e i.
         let q = one_nesting h.room h.room a (x ∷ c) c v h.begins e i (omega arith) in
         let w = h.within e i in

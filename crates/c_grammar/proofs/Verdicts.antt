@@ -9,14 +9,14 @@ use Rattle.c_grammar.specs.Descent.{Reading, found, unexpected, too_deep}
 use Rattle.c_grammar.specs.ProgramDescent as descent
 use Rattle.c_grammar.specs.Judge.{Verdict, good, unexpected_at, too_deep_at, Judged, verdict, judge}
 use Rattle.c_grammar.proofs.ProgramBasics.{derives_lift, viable_lift}
-use Rattle.c_grammar.proofs.Fronts.{Tail, all, later, next, seam, tail_end}
-use Rattle.c_grammar.proofs.ProgramFronts.{tail_viable, derives_front, viable_front}
-use Rattle.c_grammar.proofs.Far.{Far}
-use Rattle.c_grammar.proofs.More.{Same}
+use Rattle.c_grammar.proofs.ExpressionPrefixes.{Tail, all, later, next, seam, tail_end}
+use Rattle.c_grammar.proofs.ProgramPrefixes.{tail_viable, derives_prefix, viable_prefix}
+use Rattle.c_grammar.proofs.ExpressionConsumption.{Far}
+use Rattle.c_grammar.proofs.ExpressionMonotone.{Same}
 use Rattle.c_grammar.proofs.ProgramSound.{ProgramSound, program_ok}
 use Rattle.c_grammar.proofs.ProgramComplete.{program_complete}
-use Rattle.c_grammar.proofs.ProgramPassed.{program_passed}
-use Rattle.c_grammar.proofs.ProgramMore.{same_program}
+use Rattle.c_grammar.proofs.ProgramViable.{program_passed}
+use Rattle.c_grammar.proofs.ProgramMonotone.{same_program}
 
 -- ---- any number of openers more
 
@@ -92,19 +92,19 @@ one_place {r} {x} {y} {a} {c} {d} b e f g = go (seam (tail_viable b) (tail_viabl
   where
     on : {k : Tokens} → Tail (x ∷ c) k → k ≡ y ∷ d → x ∷ c ≡ y ∷ d
     on all q = q
-    on (later z) q = absurd (f (viable_front e (next (tail_viable b)) (subst (Tail c) q z)))
+    on (later z) q = absurd (f (viable_prefix e (next (tail_viable b)) (subst (Tail c) q z)))
 
     go : (Tail (x ∷ c) (y ∷ d) ⊎ Tail d (x ∷ c)) → x ∷ c ≡ y ∷ d
     go (inl z) = on z refl
-    go (inr z) = absurd (g (viable_front b (next (tail_viable e)) z))
+    go (inr z) = absurd (g (viable_prefix b (next (tail_viable e)) z))
 
 -- what is a program begins one at each place
 at_each : {r : ℕ} {x : TokenKind × Span} {a c : Tokens} {p : List Outer} → Derives r a p → Viable r a (x ∷ c) → Viable r a c
-at_each {r} {x} {a} {c} {p} d e = derives_front d (next (tail_viable e)) (tail_end c)
+at_each {r} {x} {a} {c} {p} d e = derives_prefix d (next (tail_viable e)) (tail_end c)
 
 -- what goes on to the end begins a program at each place
 to_end : {r : ℕ} {x : TokenKind × Span} {a c : Tokens} → Viable r a [] → Viable r a (x ∷ c) → Viable r a c
-to_end {r} {x} {a} {c} d e = viable_front d (next (tail_viable e)) (tail_end c)
+to_end {r} {x} {a} {c} d e = viable_prefix d (next (tail_viable e)) (tail_end c)
 
 one_verdict : (r : ℕ) (a : Tokens) (v w : Verdict) → Judged r a v → Judged r a w → v ≡ w
 one_verdict r a (good p) (good q) x y = ap good (one r r a p q x y)

@@ -1,23 +1,26 @@
--- The nesting of what begins a program, by the same table. An opener that isn't closed there is open to the end.
+-- The nesting of what begins a program, by the same table. An opener that isn't closed there is
+-- open to the end.
 use Rattle.std.specs.Prelude.{◌≡◌, ℕ, suc, ◌<◌, ◌≤◌, List, [], ◌∷◌, ◌++◌, length}
 use Rattle.c_lex.specs.declared.token.TokenKind.{TokenKind}
 use Rattle.c_tree.specs.declared.place.Span.{Span}
-use Rattle.c_grammar.specs.declared.part.Part.{Part}
+use Rattle.c_grammar.specs.declared.nonterminal.Nonterminal.{Nonterminal}
+use Rattle.c_grammar.specs.Terminals.{rest}
 use Rattle.c_grammar.specs.Grammar.{Tokens, Begins, BeginsArgument, BeginsArguments}
 use Rattle.c_grammar.specs.Programs.{BeginsLength, BeginsElements, BeginsDeclarator, BeginsDeclarators, BeginsVars, BeginsClause, BeginsStatement, BeginsItems, BeginsParameter, BeginsParameters, BeginsSignature, BeginsExternal, Viable}
-use Rattle.c_grammar.specs.Nesting.{nesting, Opener, ◌until◌, next, ending, arguments_ending, openers, argument_openers, arguments_openers, length_openers, elements_openers, length_ending, elements_ending, declarator_openers, vars_openers, clause_openers, optional_openers, optional_ending, statement_openers, statement_ending, parameter_openers, signature_openers, signature_ending, external_openers}
+use Rattle.c_grammar.specs.Nesting.{nesting, Opener, ◌until◌, ending, arguments_ending, openers, argument_openers, arguments_openers, length_openers, elements_openers, length_ending, elements_ending, declarator_openers, vars_openers, clause_openers, optional_openers, optional_ending, statement_openers, statement_ending, parameter_openers, signature_openers, signature_ending, external_openers}
 
 abbrev mutual
   -- the openers of what begins an expression
-  pub begun_openers : {N : Part} {r : ℕ} {a b : Tokens} → Begins N r a b → List Opener
+  pub begun_openers : {N : Nonterminal} {r : ℕ} {a b : Tokens} → Begins N r a b → List Opener
   begun_openers Begins.none = []
   begun_openers Begins.constant = []
   begun_openers Begins.name = []
-  begun_openers {a = a} (Begins.index d) = (next a until []) ∷ begun_openers d
-  begun_openers {a = a} (Begins.index_end d) = (next a until ending d) ∷ openers d (ending d)
-  begun_openers {a = a} Begins.call_bare = (next a until next (next a)) ∷ []
-  begun_openers {a = a} (Begins.call d) = (next a until []) ∷ begun_arguments_openers d
-  begun_openers {a = a} (Begins.call_end d) = (next a until arguments_ending d) ∷ arguments_openers d
+  begun_openers {a = a} (Begins.index d) = (rest a until []) ∷ begun_openers d
+  begun_openers {a = a} (Begins.index_end d) = (rest a until ending d) ∷ openers d (ending d)
+  begun_openers {a = a} Begins.call_bare = (rest a until rest (rest a)) ∷ []
+  begun_openers {a = a} (Begins.call d) = (rest a until []) ∷ begun_arguments_openers d
+  begun_openers {a = a} (Begins.call_end d) =
+      (rest a until arguments_ending d) ∷ arguments_openers d
   begun_openers {a = a} (Begins.paren d) = (a until []) ∷ begun_openers d
   begun_openers {a = a} (Begins.paren_end d) = (a until ending d) ∷ openers d (ending d)
   begun_openers (Begins.postfix d) = begun_openers d
@@ -34,7 +37,8 @@ abbrev mutual
   begun_openers (Begins.binary e h d1 d2) = openers d1 [] ++ (ending d1 until []) ∷ begun_openers d2
   begun_openers (Begins.conditional d) = begun_openers d
   begun_openers (Begins.choose d1 d2) = openers d1 [] ++ (ending d1 until []) ∷ begun_openers d2
-  begun_openers (Begins.choose_no d1 d2 d3) = openers d1 [] ++ (ending d1 until []) ∷ openers d2 [] ++ begun_openers d3
+  begun_openers (Begins.choose_no d1 d2 d3) =
+      openers d1 [] ++ (ending d1 until []) ∷ openers d2 [] ++ begun_openers d3
   begun_openers (Begins.assignment d) = begun_openers d
   begun_openers (Begins.assign e d1 d2) = openers d1 [] ++ (ending d1 until []) ∷ begun_openers d2
   begun_openers (Begins.expression d) = begun_openers d
@@ -49,9 +53,10 @@ abbrev mutual
   -- the openers of what begins arguments
   pub begun_arguments_openers : {r : ℕ} {a b : Tokens} → BeginsArguments r a b → List Opener
   begun_arguments_openers (BeginsArguments.last d) = begun_argument_openers d
-  begun_arguments_openers (BeginsArguments.more d e) = argument_openers d ++ begun_arguments_openers e
+  begun_arguments_openers (BeginsArguments.more d e) =
+      argument_openers d ++ begun_arguments_openers e
 
--- the openers of what begins the brackets behind an array's name
+-- the openers of what begins the brackets after an array's name
 abbrev pub begun_length_openers : {r : ℕ} {a b : Tokens} → BeginsLength r a b → List Opener
 begun_length_openers BeginsLength.none = []
 begun_length_openers {a = a} BeginsLength.bracket = (a until []) ∷ []
@@ -69,13 +74,17 @@ begun_declarator_openers BeginsDeclarator.none = []
 begun_declarator_openers (BeginsDeclarator.scalar_start d) = begun_openers d
 begun_declarator_openers (BeginsDeclarator.array d) = begun_length_openers d
 begun_declarator_openers (BeginsDeclarator.array_start d) = length_openers d
-begun_declarator_openers (BeginsDeclarator.array_list d e) = length_openers d ++ (next (length_ending d) until []) ∷ begun_elements_openers e
-begun_declarator_openers (BeginsDeclarator.array_end d e) = length_openers d ++ (next (length_ending d) until elements_ending e) ∷ elements_openers e
+begun_declarator_openers (BeginsDeclarator.array_list d e) =
+    length_openers d ++ (rest (length_ending d) until []) ∷ begun_elements_openers e
+begun_declarator_openers (BeginsDeclarator.array_end d e) =
+    length_openers d ++ (rest (length_ending d) until elements_ending e) ∷ elements_openers e
 
 -- the openers of what begins declared variables
-abbrev pub begun_declarators_openers : {r : ℕ} {a b : Tokens} → BeginsDeclarators r a b → List Opener
+abbrev pub begun_declarators_openers : {r : ℕ} {a b : Tokens} → BeginsDeclarators r a b
+    → List Opener
 begun_declarators_openers (BeginsDeclarators.last d) = begun_declarator_openers d
-begun_declarators_openers (BeginsDeclarators.more d e) = declarator_openers d ++ begun_declarators_openers e
+begun_declarators_openers (BeginsDeclarators.more d e) =
+    declarator_openers d ++ begun_declarators_openers e
 
 -- the openers of what begins a declaration of variables
 abbrev pub begun_vars_openers : {r : ℕ} {a b : Tokens} → BeginsVars r a b → List Opener
@@ -95,21 +104,38 @@ abbrev mutual
   begun_statement_openers (BeginsStatement.act d) = begun_openers d
   begun_statement_openers {a = a} (BeginsStatement.block d) = (a until []) ∷ begun_items_openers d
   begun_statement_openers {a = a} BeginsStatement.if_word = (a until []) ∷ []
-  begun_statement_openers {a = a} (BeginsStatement.if_test d) = (a until []) ∷ (next a until []) ∷ begun_openers d
-  begun_statement_openers {a = a} (BeginsStatement.if_then d e) = (a until []) ∷ (next a until ending d) ∷ openers d (ending d) ++ begun_statement_openers e
-  begun_statement_openers {a = a} (BeginsStatement.if_else d e f) = (a until []) ∷ (next a until ending d) ∷ openers d (ending d) ++ statement_openers e ++ begun_statement_openers f
+  begun_statement_openers {a = a} (BeginsStatement.if_test d) =
+      (a until []) ∷ (rest a until []) ∷ begun_openers d
+  begun_statement_openers {a = a} (BeginsStatement.if_then d e) =
+      (a until []) ∷ (rest a until ending d) ∷ openers d (ending d) ++ begun_statement_openers e
+  begun_statement_openers {a = a} (BeginsStatement.if_else d e f) =
+      (a until []) ∷ (rest a until ending d) ∷ openers d (ending d) ++ statement_openers e
+      ++ begun_statement_openers f
   begun_statement_openers {a = a} BeginsStatement.while_word = (a until []) ∷ []
-  begun_statement_openers {a = a} (BeginsStatement.while_test d) = (a until []) ∷ (next a until []) ∷ begun_openers d
-  begun_statement_openers {a = a} (BeginsStatement.while d e) = (a until []) ∷ (next a until ending d) ∷ openers d (ending d) ++ begun_statement_openers e
-  begun_statement_openers {a = a} (BeginsStatement.do_body d) = (a until []) ∷ begun_statement_openers d
+  begun_statement_openers {a = a} (BeginsStatement.while_test d) =
+      (a until []) ∷ (rest a until []) ∷ begun_openers d
+  begun_statement_openers {a = a} (BeginsStatement.while d e) =
+      (a until []) ∷ (rest a until ending d) ∷ openers d (ending d) ++ begun_statement_openers e
+  begun_statement_openers {a = a} (BeginsStatement.do_body d) =
+      (a until []) ∷ begun_statement_openers d
   begun_statement_openers {a = a} (BeginsStatement.do_word d) = (a until []) ∷ statement_openers d
-  begun_statement_openers {a = a} (BeginsStatement.do_test d e) = (a until []) ∷ statement_openers d ++ (next (statement_ending d) until []) ∷ begun_openers e
-  begun_statement_openers {a = a} (BeginsStatement.do_close d e) = (a until []) ∷ statement_openers d ++ (next (statement_ending d) until ending e) ∷ openers e (ending e)
+  begun_statement_openers {a = a} (BeginsStatement.do_test d e) =
+      (a until []) ∷ statement_openers d ++ (rest (statement_ending d) until []) ∷ begun_openers e
+  begun_statement_openers {a = a} (BeginsStatement.do_close d e) =
+      (a until []) ∷ statement_openers d ++ (rest (statement_ending d) until ending e)
+      ∷ openers e (ending e)
   begun_statement_openers {a = a} BeginsStatement.for_word = (a until []) ∷ []
-  begun_statement_openers {a = a} (BeginsStatement.for_first d) = (a until []) ∷ (next a until []) ∷ begun_clause_openers d
-  begun_statement_openers {a = a} (BeginsStatement.for_test d e) = (a until []) ∷ (next a until []) ∷ clause_openers d ++ begun_openers e
-  begun_statement_openers {a = a} (BeginsStatement.for_step d e f) = (a until []) ∷ (next a until []) ∷ clause_openers d ++ optional_openers e (optional_ending e) ++ begun_openers f
-  begun_statement_openers {a = a} (BeginsStatement.for d e f g) = (a until []) ∷ (next a until optional_ending f) ∷ clause_openers d ++ optional_openers e (optional_ending e) ++ optional_openers f (optional_ending f) ++ begun_statement_openers g
+  begun_statement_openers {a = a} (BeginsStatement.for_first d) =
+      (a until []) ∷ (rest a until []) ∷ begun_clause_openers d
+  begun_statement_openers {a = a} (BeginsStatement.for_test d e) =
+      (a until []) ∷ (rest a until []) ∷ clause_openers d ++ begun_openers e
+  begun_statement_openers {a = a} (BeginsStatement.for_step d e f) =
+      (a until []) ∷ (rest a until []) ∷ clause_openers d ++ optional_openers e (optional_ending e)
+      ++ begun_openers f
+  begun_statement_openers {a = a} (BeginsStatement.for d e f g) =
+      (a until []) ∷ (rest a until optional_ending f) ∷ clause_openers d
+      ++ optional_openers e (optional_ending e) ++ optional_openers f (optional_ending f)
+      ++ begun_statement_openers g
   begun_statement_openers (BeginsStatement.give d) = begun_openers d
   begun_statement_openers BeginsStatement.break = []
   begun_statement_openers BeginsStatement.continue = []
@@ -120,7 +146,8 @@ abbrev mutual
   begun_items_openers (BeginsItems.vars d) = begun_vars_openers d
   begun_items_openers (BeginsItems.statement d) = begun_statement_openers d
   begun_items_openers (BeginsItems.more_vars d e) = vars_openers d ++ begun_items_openers e
-  begun_items_openers (BeginsItems.more_statement d e) = statement_openers d ++ begun_items_openers e
+  begun_items_openers (BeginsItems.more_statement d e) =
+      statement_openers d ++ begun_items_openers e
 
 -- the openers of what begins a parameter
 abbrev pub begun_parameter_openers : {r : ℕ} {a b : Tokens} → BeginsParameter r a b → List Opener
@@ -131,7 +158,8 @@ begun_parameter_openers (BeginsParameter.array h d) = begun_length_openers d
 -- the openers of what begins parameters
 abbrev pub begun_parameters_openers : {r : ℕ} {a b : Tokens} → BeginsParameters r a b → List Opener
 begun_parameters_openers (BeginsParameters.last d) = begun_parameter_openers d
-begun_parameters_openers (BeginsParameters.more d e) = parameter_openers d ++ begun_parameters_openers e
+begun_parameters_openers (BeginsParameters.more d e) =
+    parameter_openers d ++ begun_parameters_openers e
 
 -- the openers of what begins a signature
 abbrev pub begun_signature_openers : {r : ℕ} {a b : Tokens} → BeginsSignature r a b → List Opener
@@ -144,9 +172,13 @@ begun_external_openers BeginsExternal.none = []
 begun_external_openers (BeginsExternal.vars d) = begun_vars_openers d
 begun_external_openers (BeginsExternal.result h) = []
 begun_external_openers (BeginsExternal.name h) = []
-begun_external_openers {a = a} (BeginsExternal.signature h d) = (next (next a) until []) ∷ begun_signature_openers d
-begun_external_openers {a = a} (BeginsExternal.close h d) = (next (next a) until signature_ending d) ∷ signature_openers d
-begun_external_openers {a = a} (BeginsExternal.body h d e) = (next (next a) until signature_ending d) ∷ signature_openers d ++ (next (signature_ending d) until []) ∷ begun_items_openers e
+begun_external_openers {a = a} (BeginsExternal.signature h d) =
+    (rest (rest a) until []) ∷ begun_signature_openers d
+begun_external_openers {a = a} (BeginsExternal.close h d) =
+    (rest (rest a) until signature_ending d) ∷ signature_openers d
+begun_external_openers {a = a} (BeginsExternal.body h d e) =
+    (rest (rest a) until signature_ending d) ∷ signature_openers d
+    ++ (rest (signature_ending d) until []) ∷ begun_items_openers e
 begun_external_openers (BeginsExternal.end d) = external_openers d
 
 -- the openers of what begins a program
@@ -156,8 +188,9 @@ viable_openers (Viable.more d e) = external_openers d ++ viable_openers e
 
 -- ---- where the nesting passes a number
 
--- The token x, after which the tokens c stand, is the first at which the nesting passes r: the tokens before it, with it, begin a
--- program, the nesting at it is one more than r, and nowhere before it is it more than r.
+-- The token x, after which the tokens c stand, is the first at which the nesting passes r: the
+-- tokens before it, with it, begin a program, the nesting at it is one more than r, and nowhere
+-- before it is it more than r.
 pub record PassesAt (r : ℕ) (a : Tokens) (x : TokenKind × Span) (c : Tokens) : Type 0 where
   pub earlier : Tokens
   pub splits : a ≡ earlier ++ x ∷ c

@@ -12,7 +12,8 @@ pub data Verdict : Type 0 where
   unexpected_at : Tokens → Verdict
   too_deep_at : Tokens → Verdict
 
--- With the token at b, or the end of the tokens, nothing is a program that begins so, whatever the room.
+-- With the token at b, or the end of the tokens, nothing is a program that begins so, whatever the
+-- room.
 abbrev pub NoMore : Tokens → Tokens → Type 0
 NoMore a [] = (s : ℕ) (p : List Outer) → Derives s a p → ⊥
 NoMore a (x ∷ c) = (s : ℕ) → Viable s a c → ⊥

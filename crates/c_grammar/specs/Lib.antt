@@ -1,7 +1,7 @@
 pub mod Operators
 pub mod Grammar
 pub mod Programs
-pub mod Leads
+pub mod Terminals
 pub mod Descent
 pub mod ProgramDescent
 pub mod Judge

@@ -1,22 +1,25 @@
--- The nesting of a program, by the table of its openers and of where each is closed. It speaks of no room.
+-- The nesting of a program, by the table of its openers and of where each is closed. It speaks of
+-- no room.
 --
---   opener                                                   open until
---   `(` `[` `{`                                              its closing bracket
---   a prefix operator, the `&` of an argument among them,    the end of the innermost bracketed part, argument, initialiser,
---   the `(` of a cast, a binary operator, an assignment      element of an initialiser list, clause of a `for`, or statement
---   operator, `?`, the comma operator                        that it stands in
---   `if`, `do`, `for`, a `while` that begins a statement     the end of its whole statement
+--   opener                                                  open until
+--   `(` `[` `{`                                             its closing bracket
+--   a prefix operator, the `&` of an argument among them,   the end of the innermost bracketed part,
+--   the `(` of a cast, a binary operator, an assignment     argument, initialiser, element of an
+--   operator, `?`, the comma operator                       initialiser list, clause of a `for`, or
+--                                                           statement that it stands in
+--   `if`, `do`, `for`, a `while` that begins a statement    the end of its whole statement
 --
--- The `=` before an initialiser, a comma that separates, `++` and `--` behind a place, and the `while` behind the body of a `do`
--- are none.
+-- The `=` before an initialiser, a comma that separates, `++` and `--` after a place, and the
+-- `while` after the body of a `do` are none.
 use Rattle.std.specs.Prelude.{ℕ, suc, Bool, true, false, ◌&&◌, List, [], ◌∷◌, ◌++◌, length, nat_lt, nat_le, if◌then◌else◌, ℤ, Option}
 use Rattle.c_tree.specs.declared.place.Span.{Span}
 use Rattle.c_tree.specs.declared.program.Param.{Param}
 use Rattle.c_tree.specs.declared.stmt.Ty.{Ty}
 use Rattle.c_tree.specs.Tree.{Tree, Variable, First, Code, Body, Outer}
-use Rattle.c_grammar.specs.declared.lead.Lead.{Lead}
-use Rattle.c_grammar.specs.declared.lead.Lead.TheVariants as lead
-use Rattle.c_grammar.specs.declared.part.Part.{Part}
+use Rattle.c_grammar.specs.declared.terminal.Terminal.{Terminal}
+use Rattle.c_grammar.specs.declared.terminal.Terminal.TheVariants as terminal
+use Rattle.c_grammar.specs.declared.nonterminal.Nonterminal.{Nonterminal}
+use Rattle.c_grammar.specs.Terminals.{rest}
 use Rattle.c_grammar.specs.Grammar.{Tokens, Given, Reads, Argument, Arguments}
 use Rattle.c_grammar.specs.Programs.{Length, Elements, Declarator, Declarators, Vars, Clause, Optional, Statement, Items, Parameter, Parameters, Signature, External, Derives}
 
@@ -33,49 +36,48 @@ a until b = (a, b)
 abbrev pub is_open : Opener → Tokens → Bool
 is_open (a, b) c = nat_le (length c) (length a) && nat_lt (length b) (length c)
 
--- the nesting at the first of these tokens: how many openers stand there or before, and are still open
+-- the nesting at the first of these tokens: how many openers stand there or before, and are still
+-- open
 abbrev pub nesting : List Opener → Tokens → ℕ
 nesting [] c = 0
 nesting (o ∷ k) c = if is_open o c then suc (nesting k c) else nesting k c
 
 -- whether a token is of a kind that the table names
-abbrev pub opening : Lead → Bool
-opening lead.OpenParen = true
-opening lead.OpenBracket = true
-opening lead.OpenBrace = true
-opening (lead.Bump up) = true
-opening (lead.Prefix f) = true
-opening (lead.Binary f) = true
-opening (lead.Assign f) = true
-opening lead.Question = true
-opening lead.Comma = true
-opening lead.If = true
-opening lead.Do = true
-opening lead.For = true
-opening lead.While = true
-opening _ = false
+abbrev pub is_opener : Terminal → Bool
+is_opener terminal.OpenParen = true
+is_opener terminal.OpenBracket = true
+is_opener terminal.OpenBrace = true
+is_opener (terminal.Bump up) = true
+is_opener (terminal.Prefix f) = true
+is_opener (terminal.Binary f) = true
+is_opener (terminal.Assign f) = true
+is_opener terminal.Question = true
+is_opener terminal.Comma = true
+is_opener terminal.If = true
+is_opener terminal.Do = true
+is_opener terminal.For = true
+is_opener terminal.While = true
+is_opener _ = false
 
--- the tokens behind the first
-abbrev pub next : Tokens → Tokens
-next [] = []
-next (x ∷ a) = a
-
--- the tokens behind an expression
-abbrev pub ending : {N : Part} {r m : ℕ} {a b : Tokens} {t : Tree} → Reads N r a m b t → Tokens
+-- the tokens after an expression
+abbrev pub ending : {N : Nonterminal} {r m : ℕ} {a b : Tokens} {t : Tree} → Reads N r a m b t
+    → Tokens
 ending {b = b} d = b
 
--- the tokens behind arguments
+-- the tokens after arguments
 abbrev pub arguments_ending : {r : ℕ} {a b : Tokens} {gs : List Given} → Arguments r a b gs → Tokens
 arguments_ending {b = b} d = b
 
 abbrev mutual
-  -- the openers of an expression. It stands in a bracketed part, argument, initialiser, clause or statement with this end.
-  pub openers : {N : Part} {r m : ℕ} {a b : Tokens} {t : Tree} → Reads N r a m b t → Tokens → List Opener
+  -- the openers of an expression. It stands in a bracketed part, argument, initialiser, clause or
+  -- statement with this end.
+  pub openers : {N : Nonterminal} {r m : ℕ} {a b : Tokens} {t : Tree} → Reads N r a m b t → Tokens
+      → List Opener
   openers Reads.constant end = []
   openers Reads.name end = []
-  openers {a = a} (Reads.index d) end = (next a until ending d) ∷ openers d (ending d)
-  openers {a = a} Reads.call_bare end = (next a until next (next a)) ∷ []
-  openers {a = a} (Reads.call d) end = (next a until arguments_ending d) ∷ arguments_openers d
+  openers {a = a} (Reads.index d) end = (rest a until ending d) ∷ openers d (ending d)
+  openers {a = a} Reads.call_bare end = (rest a until rest (rest a)) ∷ []
+  openers {a = a} (Reads.call d) end = (rest a until arguments_ending d) ∷ arguments_openers d
   openers {a = a} (Reads.paren d) end = (a until ending d) ∷ openers d (ending d)
   openers (Reads.postfix d) end = openers d end
   openers (Reads.bump_after e d) end = openers d end
@@ -88,7 +90,8 @@ abbrev mutual
   openers (Reads.weaker d) end = openers d end
   openers (Reads.binary e h d1 d2) end = openers d1 end ++ (ending d1 until end) ∷ openers d2 end
   openers (Reads.conditional d) end = openers d end
-  openers (Reads.choose d1 d2 d3) end = openers d1 end ++ (ending d1 until end) ∷ openers d2 end ++ openers d3 end
+  openers (Reads.choose d1 d2 d3) end =
+      openers d1 end ++ (ending d1 until end) ∷ openers d2 end ++ openers d3 end
   openers (Reads.assignment d) end = openers d end
   openers (Reads.assign e d1 d2) end = openers d1 end ++ (ending d1 until end) ∷ openers d2 end
   openers (Reads.expression d) end = openers d end
@@ -101,45 +104,53 @@ abbrev mutual
   argument_openers {a = a} {b = b} (Argument.address d) = (a until b) ∷ openers d b
 
   -- the openers of arguments
-  pub arguments_openers : {r : ℕ} {a b : Tokens} {gs : List Given} → Arguments r a b gs → List Opener
+  pub arguments_openers : {r : ℕ} {a b : Tokens} {gs : List Given} → Arguments r a b gs
+      → List Opener
   arguments_openers (Arguments.last d) = argument_openers d
   arguments_openers (Arguments.more d e) = argument_openers d ++ arguments_openers e
 
 -- ---- declarations
 
--- the openers of the brackets behind an array's name
-abbrev pub length_openers : {r : ℕ} {a b : Tokens} {n : Option ℤ} {e : Span} → Length r a b n e → List Opener
-length_openers {a = a} Length.bare = (a until next a) ∷ []
-length_openers {a = a} Length.constant = (a until next (next a)) ∷ []
+-- the openers of the brackets after an array's name
+abbrev pub length_openers : {r : ℕ} {a b : Tokens} {n : Option ℤ} {e : Span} → Length r a b n e
+    → List Opener
+length_openers {a = a} Length.bare = (a until rest a) ∷ []
+length_openers {a = a} Length.constant = (a until rest (rest a)) ∷ []
 
 -- the openers of the elements of an initialiser list
-abbrev pub elements_openers : {r : ℕ} {a b : Tokens} {ts : List Tree} → Elements r a b ts → List Opener
+abbrev pub elements_openers : {r : ℕ} {a b : Tokens} {ts : List Tree} → Elements r a b ts
+    → List Opener
 elements_openers (Elements.last d) = openers d (ending d)
 elements_openers (Elements.last_comma d) = openers d (ending d)
 elements_openers (Elements.more d e) = openers d (ending d) ++ elements_openers e
 
--- the tokens behind the elements of an initialiser list
+-- the tokens after the elements of an initialiser list
 abbrev pub elements_ending : {r : ℕ} {a b : Tokens} {ts : List Tree} → Elements r a b ts → Tokens
 elements_ending {b = b} d = b
 
--- the tokens behind the brackets behind an array's name
-abbrev pub length_ending : {r : ℕ} {a b : Tokens} {n : Option ℤ} {e : Span} → Length r a b n e → Tokens
+-- the tokens after the brackets after an array's name
+abbrev pub length_ending : {r : ℕ} {a b : Tokens} {n : Option ℤ} {e : Span} → Length r a b n e
+    → Tokens
 length_ending {b = b} d = b
 
 -- the openers of a declared variable
-abbrev pub declarator_openers : {r : ℕ} {a b : Tokens} {v : Variable} → Declarator r a b v → List Opener
+abbrev pub declarator_openers : {r : ℕ} {a b : Tokens} {v : Variable} → Declarator r a b v
+    → List Opener
 declarator_openers Declarator.scalar = []
 declarator_openers (Declarator.scalar_start d) = openers d (ending d)
 declarator_openers (Declarator.array d) = length_openers d
-declarator_openers (Declarator.array_list d e) = length_openers d ++ (next (length_ending d) until elements_ending e) ∷ elements_openers e
+declarator_openers (Declarator.array_list d e) =
+    length_openers d ++ (rest (length_ending d) until elements_ending e) ∷ elements_openers e
 
 -- the openers of declared variables
-abbrev pub declarators_openers : {r : ℕ} {a b : Tokens} {vs : List Variable} → Declarators r a b vs → List Opener
+abbrev pub declarators_openers : {r : ℕ} {a b : Tokens} {vs : List Variable} → Declarators r a b vs
+    → List Opener
 declarators_openers (Declarators.last d) = declarator_openers d
 declarators_openers (Declarators.more d e) = declarator_openers d ++ declarators_openers e
 
 -- the openers of a declaration of variables
-abbrev pub vars_openers : {r : ℕ} {a b : Tokens} {ty : Ty} {vs : List Variable} → Vars r a b ty vs → List Opener
+abbrev pub vars_openers : {r : ℕ} {a b : Tokens} {ty : Ty} {vs : List Variable} → Vars r a b ty vs
+    → List Opener
 vars_openers (Vars.vars h d) = declarators_openers d
 
 -- ---- statements
@@ -151,36 +162,45 @@ clause_openers (Clause.act d) = openers d (ending d)
 clause_openers (Clause.vars d) = vars_openers d
 
 -- the openers of an expression that may be absent, in a clause or statement with this end
-abbrev pub optional_openers : {r : ℕ} {a b : Tokens} {t : Option Tree} → Optional r a b t → Tokens → List Opener
+abbrev pub optional_openers : {r : ℕ} {a b : Tokens} {t : Option Tree} → Optional r a b t → Tokens
+    → List Opener
 optional_openers Optional.absent end = []
 optional_openers (Optional.present d) end = openers d end
 
--- the tokens behind an expression that may be absent
+-- the tokens after an expression that may be absent
 abbrev pub optional_ending : {r : ℕ} {a b : Tokens} {t : Option Tree} → Optional r a b t → Tokens
 optional_ending {b = b} d = b
 
--- the tokens behind a statement
-abbrev pub statement_ending : {o : Bool} {r : ℕ} {a b : Tokens} {x : Code} → Statement o r a b x → Tokens
+-- the tokens after a statement
+abbrev pub statement_ending : {o : Bool} {r : ℕ} {a b : Tokens} {x : Code} → Statement o r a b x
+    → Tokens
 statement_ending {b = b} d = b
 
--- the tokens behind items
+-- the tokens after items
 abbrev pub items_ending : {r : ℕ} {a b : Tokens} {body : Body} → Items r a b body → Tokens
 items_ending {b = b} d = b
 
 abbrev mutual
   -- the openers of a statement
-  pub statement_openers : {o : Bool} {r : ℕ} {a b : Tokens} {x : Code} → Statement o r a b x → List Opener
+  pub statement_openers : {o : Bool} {r : ℕ} {a b : Tokens} {x : Code} → Statement o r a b x
+      → List Opener
   statement_openers Statement.empty = []
   statement_openers {b = b} (Statement.act d) = openers d b
   statement_openers {a = a} (Statement.block d) = (a until items_ending d) ∷ items_openers d
-  statement_openers {a = a} {b = b} (Statement.if_then d e) = (a until b) ∷ (next a until ending d) ∷ openers d (ending d) ++ statement_openers e
+  statement_openers {a = a} {b = b} (Statement.if_then d e) =
+      (a until b) ∷ (rest a until ending d) ∷ openers d (ending d) ++ statement_openers e
   statement_openers {a = a} {b = b} (Statement.if_else d e f) =
-      (a until b) ∷ (next a until ending d) ∷ openers d (ending d) ++ statement_openers e ++ statement_openers f
-  statement_openers {a = a} {b = b} (Statement.while d e) = (a until b) ∷ (next a until ending d) ∷ openers d (ending d) ++ statement_openers e
+      (a until b) ∷ (rest a until ending d) ∷ openers d (ending d) ++ statement_openers e
+      ++ statement_openers f
+  statement_openers {a = a} {b = b} (Statement.while d e) =
+      (a until b) ∷ (rest a until ending d) ∷ openers d (ending d) ++ statement_openers e
   statement_openers {a = a} {b = b} (Statement.do_while d e) =
-      (a until b) ∷ statement_openers d ++ (next (statement_ending d) until ending e) ∷ openers e (ending e)
+      (a until b) ∷ statement_openers d ++ (rest (statement_ending d) until ending e)
+      ∷ openers e (ending e)
   statement_openers {a = a} {b = b} (Statement.for d e f g) =
-      (a until b) ∷ (next a until optional_ending f) ∷ clause_openers d ++ optional_openers e (optional_ending e) ++ optional_openers f (optional_ending f) ++ statement_openers g
+      (a until b) ∷ (rest a until optional_ending f) ∷ clause_openers d
+      ++ optional_openers e (optional_ending e) ++ optional_openers f (optional_ending f)
+      ++ statement_openers g
   statement_openers {b = b} (Statement.give d) = optional_openers d b
   statement_openers Statement.break = []
   statement_openers Statement.continue = []
@@ -199,26 +219,30 @@ parameter_openers (Parameter.scalar h) = []
 parameter_openers (Parameter.array h d) = length_openers d
 
 -- the openers of parameters
-abbrev pub parameters_openers : {r : ℕ} {a b : Tokens} {xs : List Param} → Parameters r a b xs → List Opener
+abbrev pub parameters_openers : {r : ℕ} {a b : Tokens} {xs : List Param} → Parameters r a b xs
+    → List Opener
 parameters_openers (Parameters.last d) = parameter_openers d
 parameters_openers (Parameters.more d e) = parameter_openers d ++ parameters_openers e
 
 -- the openers of a signature
-abbrev pub signature_openers : {r : ℕ} {a b : Tokens} {xs : List Param} → Signature r a b xs → List Opener
+abbrev pub signature_openers : {r : ℕ} {a b : Tokens} {xs : List Param} → Signature r a b xs
+    → List Opener
 signature_openers Signature.empty = []
 signature_openers Signature.void = []
 signature_openers (Signature.parameters d) = parameters_openers d
 
--- the tokens behind a signature
+-- the tokens after a signature
 abbrev pub signature_ending : {r : ℕ} {a b : Tokens} {xs : List Param} → Signature r a b xs → Tokens
 signature_ending {b = b} d = b
 
 -- the openers of what stands at file scope
 abbrev pub external_openers : {r : ℕ} {a b : Tokens} {x : Outer} → External r a b x → List Opener
 external_openers (External.vars d) = vars_openers d
-external_openers {a = a} (External.prototype h d) = (next (next a) until signature_ending d) ∷ signature_openers d
+external_openers {a = a} (External.prototype h d) =
+    (rest (rest a) until signature_ending d) ∷ signature_openers d
 external_openers {a = a} (External.definition h d e) =
-    (next (next a) until signature_ending d) ∷ signature_openers d ++ (next (signature_ending d) until items_ending e) ∷ items_openers e
+    (rest (rest a) until signature_ending d) ∷ signature_openers d
+    ++ (rest (signature_ending d) until items_ending e) ∷ items_openers e
 
 -- the openers of a program
 abbrev pub program_openers : {r : ℕ} {a : Tokens} {p : List Outer} → Derives r a p → List Opener

@@ -1,4 +1,5 @@
--- What punctuators and keywords are to the grammar: operators with their ranks, and types (C11 6.5, 6.7.2).
+-- What punctuators and keywords are to the grammar: operators with their ranks, and types (C11 6.5,
+-- 6.7.2).
 use Rattle.std.specs.Prelude.{ℕ, Bool, true, false, Option, Some, None}
 use Rattle.c_lex.specs.declared.token.Keyword.{Keyword}
 use Rattle.c_lex.specs.declared.token.Keyword.TheVariants as key

@@ -26,12 +26,12 @@ right7 a b c d e f g = append_assoc (a ++ b ++ c ++ d ++ e) f g ∙ right6 a b c
 pub right8 : (a b c d e f g h : Bytes) → a ++ b ++ c ++ d ++ e ++ f ++ g ++ h ≡ a ++ (b ++ (c ++ (d ++ (e ++ (f ++ (g ++ h))))))
 right8 a b c d e f g h = append_assoc (a ++ b ++ c ++ d ++ e ++ f) g h ∙ right7 a b c d e f (g ++ h)
 
--- what stands behind a front
-pub front_dropped : (w rest : Bytes) → drop (length w) (w ++ rest) ≡ rest
-front_dropped [] rest = refl
-front_dropped (b ∷ w) rest = front_dropped w rest
+-- what stands after a prefix
+pub prefix_dropped : (w rest : Bytes) → drop (length w) (w ++ rest) ≡ rest
+prefix_dropped [] rest = refl
+prefix_dropped (b ∷ w) rest = prefix_dropped w rest
 
--- a front is the first bytes
-pub front_taken : (w rest : Bytes) → take (length w) (w ++ rest) ≡ w
-front_taken [] rest = refl
-front_taken (b ∷ w) rest = ap (λ y. b ∷ y) (front_taken w rest)
+-- a prefix is the first bytes
+pub prefix_taken : (w rest : Bytes) → take (length w) (w ++ rest) ≡ w
+prefix_taken [] rest = refl
+prefix_taken (b ∷ w) rest = ap (λ y. b ∷ y) (prefix_taken w rest)

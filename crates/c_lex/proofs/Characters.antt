@@ -5,12 +5,12 @@ use Rattle.std.specs.Str.Parse.{AllDigits, digits_value}
 use Rattle.std.proofs.lemmas.Bool.Decides.{nat_tests}
 use Rattle.std.proofs.lemmas.Bool.{cases_lt}
 use Rattle.std.proofs.lemmas.List.{length-take-le, take_at, drop_at, drop_all, drop-drop, length-drop, at_drop_more}
-use Rattle.c_lex.specs.declared.character.FrontCharacter.{FrontCharacter}
+use Rattle.c_lex.specs.declared.character.FirstCharacter.{FirstCharacter}
 use Rattle.c_lex.specs.Bytes.{Bytes}
 use Rattle.c_lex.specs.Constants.{HasDigits, is_bare, simple_escape, begins_digit, Character, Characters}
 use Rattle.c_lex.specs.LiteralReading.{digit_count, by_digits, numeric_escape, escape_by, escape, first_character}
 
--- ---- digits at the front
+-- ---- digits at the start
 
 -- the step of `counted_digits`, by whether the first byte is a digit
 counted_by : (base most b : ℕ) (z : Bytes) (x : Bool) → is_digit b base ≡ x → AllDigits base (take (digit_count base most z) z)
@@ -48,7 +48,7 @@ counted_all base zero z = inl refl
 counted_all base (suc most) [] = inr refl
 counted_all base (suc most) (b ∷ z) = all_by base most b z (is_digit b base) refl (counted_all base most z)
 
--- in front of no digit none are counted
+-- before what is no digit none are counted
 none_counted : (base most : ℕ) (z : Bytes) → (most ≡ 0) ⊎ (begins_digit base z ≡ false) → digit_count base most z ≡ 0
 none_counted base zero z h = refl
 none_counted base (suc most) [] h = refl
@@ -105,13 +105,13 @@ no_value base most before z f =
 -- ---- the first character
 
 -- f is the first character of z between such quotes
-pub record IsFirst (quote : ℕ) (z : Bytes) (f : FrontCharacter) : Type 0 where
+pub record IsFirst (quote : ℕ) (z : Bytes) (f : FirstCharacter) : Type 0 where
   pub character : Character quote z f.value (drop f.len z)
   pub some : 1 ≤ f.len
   pub within : f.len ≤ length z
 
 -- what `by_digits` gives
-by_digits_is : (base before count : ℕ) (z : Bytes) (f : FrontCharacter) → by_digits base before count z ≡ Some f
+by_digits_is : (base before count : ℕ) (z : Bytes) (f : FirstCharacter) → by_digits base before count z ≡ Some f
     → (1 ≤ count) × (digits_value base (take count z) ≤ 255) × (f.value ≡ digits_value base (take count z)) × (f.len ≡ before + count)
 by_digits_is base before count z f h = by (nat_le 1 count) (nat_le (digits_value base (take count z)) 255) refl refl h
   where
@@ -132,8 +132,8 @@ by_digits_gives base before count z value s e l =
     ∙ ap (λ t. if t then Some (record { value = digits_value base (take count z); len = before + count }) else None) q
     ∙ ap (λ v. Some (record { value = v; len = before + count })) (sym e)
 
--- what an octal escape of the bytes z gives is the first character behind a backslash
-octal_first : (quote : ℕ) (z : Bytes) (f : FrontCharacter) → numeric_escape 8 3 1 z ≡ Some f → IsFirst quote (92 ∷ z) f
+-- what an octal escape of the bytes z gives is the first character after a backslash
+octal_first : (quote : ℕ) (z : Bytes) (f : FirstCharacter) → numeric_escape 8 3 1 z ≡ Some f → IsFirst quote (92 ∷ z) f
 unfolding numeric_escape
 octal_first quote z f h =
     let n = digit_count 8 3 z in
@@ -150,13 +150,13 @@ octal_first quote z f h =
       within = omega (arith, w.1);
     }
 
--- behind as many digits as there are bytes no digit follows
+-- after as many digits as there are bytes no digit follows
 hexadecimal_ends : (z : Bytes) → begins_digit 16 (drop (digit_count 16 (length z) z) z) ≡ false
 hexadecimal_ends z =
     ⊎_elim (λ i. ap (begins_digit 16) (drop_all (digit_count 16 (length z) z) z (omega arith))) (λ i. i) (counted_all 16 (length z) z)
 
--- what a hexadecimal escape gives is the first character behind a backslash and `x`
-hexadecimal_first : (quote : ℕ) (z : Bytes) (f : FrontCharacter) → numeric_escape 16 (length z) 2 z ≡ Some f → IsFirst quote (92 ∷ 120 ∷ z) f
+-- what a hexadecimal escape gives is the first character after a backslash and `x`
+hexadecimal_first : (quote : ℕ) (z : Bytes) (f : FirstCharacter) → numeric_escape 16 (length z) 2 z ≡ Some f → IsFirst quote (92 ∷ 120 ∷ z) f
 unfolding numeric_escape
 hexadecimal_first quote z f h =
     let n = digit_count 16 (length z) z in
@@ -173,13 +173,13 @@ hexadecimal_first quote z f h =
     }
 
 -- the step of `escape_first` without a simple escape, by whether the byte is `x`
-numeric_first : (quote b : ℕ) (z : Bytes) (f : FrontCharacter) (x : Bool) → (b == 120) ≡ x
+numeric_first : (quote b : ℕ) (z : Bytes) (f : FirstCharacter) (x : Bool) → (b == 120) ≡ x
     → (if x then numeric_escape 16 (length z) 2 z else numeric_escape 8 3 1 (b ∷ z)) ≡ Some f → IsFirst quote (92 ∷ b ∷ z) f
 numeric_first quote b z f true e h = let s : 120 ≡ b = grind (arith, nat_tests) in subst (λ c. IsFirst quote (92 ∷ c ∷ z) f) s (hexadecimal_first quote z f h)
 numeric_first quote b z f false e h = octal_first quote (b ∷ z) f h
 
 -- the step of `escape_first`, by the value of a simple escape
-simple_first : (quote b : ℕ) (z : Bytes) (f : FrontCharacter) (o : Option ℕ) → simple_escape b ≡ o → escape_by o b z ≡ Some f → IsFirst quote (92 ∷ b ∷ z) f
+simple_first : (quote b : ℕ) (z : Bytes) (f : FirstCharacter) (o : Option ℕ) → simple_escape b ≡ o → escape_by o b z ≡ Some f → IsFirst quote (92 ∷ b ∷ z) f
 simple_first quote b z f (Some value) e h =
     let c : Character quote (92 ∷ b ∷ z) value z = Character.simple b refl e in
     let i : IsFirst quote (92 ∷ b ∷ z) (record { value = value; len = 2 }) = record { character = c; some = omega arith; within = omega arith } in
@@ -187,14 +187,14 @@ simple_first quote b z f (Some value) e h =
     subst (IsFirst quote (92 ∷ b ∷ z)) s i
 simple_first quote b z f None e h = numeric_first quote b z f (b == 120) refl h
 
--- what an escape gives is the first character behind its backslash
-escape_first : (quote : ℕ) (z : Bytes) (f : FrontCharacter) → escape z ≡ Some f → IsFirst quote (92 ∷ z) f
+-- what an escape gives is the first character after its backslash
+escape_first : (quote : ℕ) (z : Bytes) (f : FirstCharacter) → escape z ≡ Some f → IsFirst quote (92 ∷ z) f
 unfolding escape
 escape_first quote [] f h = absurd (cc)
 escape_first quote (b ∷ z) f h = simple_first quote b z f (simple_escape b) refl h
 
 -- the step of `first_is`, by the tests of the first byte
-first_by : (quote b : ℕ) (z : Bytes) (f : FrontCharacter) (x y : Bool) → (b == 92) ≡ x → is_bare quote b ≡ y
+first_by : (quote b : ℕ) (z : Bytes) (f : FirstCharacter) (x y : Bool) → (b == 92) ≡ x → is_bare quote b ≡ y
     → (if x then escape z else if y then Some (record { value = b; len = 1 }) else None) ≡ Some f → IsFirst quote (b ∷ z) f
 first_by quote b z f true y e g h = let s : 92 ≡ b = grind (arith, nat_tests) in subst (λ c. IsFirst quote (c ∷ z) f) s (escape_first quote z f h)
 first_by quote b z f false true e g h =
@@ -204,19 +204,19 @@ first_by quote b z f false true e g h =
 first_by quote b z f false false e g h = absurd (cc)
 
 -- what is read is the first character
-pub first_is : (quote : ℕ) (z : Bytes) (f : FrontCharacter) → first_character quote z ≡ Some f → IsFirst quote z f
+pub first_is : (quote : ℕ) (z : Bytes) (f : FirstCharacter) → first_character quote z ≡ Some f → IsFirst quote z f
 unfolding first_character
 first_is quote [] f h = absurd (cc)
 first_is quote (b ∷ z) f h = first_by quote b z f (b == 92) (is_bare quote b) refl refl h
 
 -- ---- each first character is read
 
--- a first character that is read, with what stands behind it
+-- a first character that is read, with what stands after it
 abbrev pub Reads : ℕ → Bytes → ℕ → Bytes → Type 0
 Reads quote z value rest = (n : ℕ) × (first_character quote z ≡ Some (record { value = value; len = n })) × (drop n z ≡ rest)
 
--- behind a backslash the escape is read
-escape_read : (quote : ℕ) (z : Bytes) (f : FrontCharacter) → escape z ≡ Some f → first_character quote (92 ∷ z) ≡ Some f
+-- after a backslash the escape is read
+escape_read : (quote : ℕ) (z : Bytes) (f : FirstCharacter) → escape z ≡ Some f → first_character quote (92 ∷ z) ≡ Some f
 unfolding first_character
 escape_read quote z f h = h
 
@@ -238,15 +238,15 @@ octal_digit : (b : ℕ) → digit_value b < 8 → (simple_escape b ≡ None) × 
 unfolding simple_escape
 octal_digit b h = (grind (arith, nat_tests), grind (arith, nat_tests))
 
--- behind a backslash an octal digit begins a numeric escape
-octal_read : (b : ℕ) (z : Bytes) (f : FrontCharacter) → digit_value b < 8 → numeric_escape 8 3 1 (b ∷ z) ≡ Some f → escape (b ∷ z) ≡ Some f
+-- after a backslash an octal digit begins a numeric escape
+octal_read : (b : ℕ) (z : Bytes) (f : FirstCharacter) → digit_value b < 8 → numeric_escape 8 3 1 (b ∷ z) ≡ Some f → escape (b ∷ z) ≡ Some f
 unfolding escape
 octal_read b z f d h =
     let o = octal_digit b d in
     ap (λ o. escape_by o b z) o.0 ∙ ap (λ t. if t then numeric_escape 16 (length z) 2 z else numeric_escape 8 3 1 (b ∷ z)) o.1 ∙ h
 
--- behind a backslash and `x` stands a hexadecimal escape
-hexadecimal_read : (z : Bytes) (f : FrontCharacter) → numeric_escape 16 (length z) 2 z ≡ Some f → escape (120 ∷ z) ≡ Some f
+-- after a backslash and `x` stands a hexadecimal escape
+hexadecimal_read : (z : Bytes) (f : FirstCharacter) → numeric_escape 16 (length z) 2 z ≡ Some f → escape (120 ∷ z) ≡ Some f
 unfolding escape simple_escape
 hexadecimal_read z f h = h
 
@@ -275,13 +275,13 @@ hexadecimal_reads : (quote value : ℕ) (w rest : Bytes) → HasDigits 16 w valu
 hexadecimal_reads quote value w rest h e s = (
   2 + length w,
   escape_read quote (120 ∷ w ++ rest) (record { value = value; len = 2 + length w })
-      (hexadecimal_read (w ++ rest) (record { value = value; len = 2 + length w }) (numeric_read 16 (length (w ++ rest)) 2 value w rest h (length_front w rest) (inr e) s)),
+      (hexadecimal_read (w ++ rest) (record { value = value; len = 2 + length w }) (numeric_read 16 (length (w ++ rest)) 2 value w rest h (length_prefix w rest) (inr e) s)),
   drop_at (92 ∷ 120 ∷ w) rest (2 + length w) (omega arith),
 )
   where
-    length_front : (w rest : Bytes) → length w ≤ length (w ++ rest)
-    length_front [] rest = omega arith
-    length_front (b ∷ w) rest = let h = length_front w rest in omega arith
+    length_prefix : (w rest : Bytes) → length w ≤ length (w ++ rest)
+    length_prefix [] rest = omega arith
+    length_prefix (b ∷ w) rest = let h = length_prefix w rest in omega arith
 
 -- each first character is read
 pub first_read : {quote value : ℕ} {z rest : Bytes} → Character quote z value rest → Reads quote z value rest
@@ -298,10 +298,10 @@ first_missing e c = let r = first_read c in absurd (cc (e, r.1))
 -- ---- lists of characters
 
 -- equal first characters have equal values and lengths
-same_first : (a b : FrontCharacter) → Some a ≡ Some b → (a.value ≡ b.value) × (a.len ≡ b.len)
+same_first : (a b : FirstCharacter) → Some a ≡ Some b → (a.value ≡ b.value) × (a.len ≡ b.len)
 same_first a b e =
     let f : a ≡ b = cc in
-    (ap (λ (x : FrontCharacter). x.value) f, ap (λ (x : FrontCharacter). x.len) f)
+    (ap (λ (x : FirstCharacter). x.value) f, ap (λ (x : FirstCharacter). x.len) f)
 
 -- a text has one first character at most
 pub one_character : {quote v u : ℕ} {z x y : Bytes} → Character quote z v x → Character quote z u y → (v ≡ u) × (x ≡ y)
@@ -339,13 +339,13 @@ one_characters (Characters.more {value = v} {values = values} c l) d =
 -- ---- what is answered between quotes
 
 -- where the first character takes all bytes, it is the only one
-pub only_one : (quote : ℕ) (z : Bytes) (f : FrontCharacter) → first_character quote z ≡ Some f → f.len ≡ length z → Characters quote z (f.value ∷ [])
+pub only_one : (quote : ℕ) (z : Bytes) (f : FirstCharacter) → first_character quote z ≡ Some f → f.len ≡ length z → Characters quote z (f.value ∷ [])
 only_one quote z f e l =
     let rest : drop f.len z ≡ [] = drop_all f.len z (omega arith) in
     Characters.more (first_is quote z f e).character (subst (λ x. Characters quote x []) (sym rest) Characters.done)
 
 -- where it takes fewer, there is no one character
-pub not_only : (quote v : ℕ) (z : Bytes) (f : FrontCharacter) → first_character quote z ≡ Some f → f.len ≢ length z → Characters quote z (v ∷ []) → ⊥
+pub not_only : (quote v : ℕ) (z : Bytes) (f : FirstCharacter) → first_character quote z ≡ Some f → f.len ≢ length z → Characters quote z (v ∷ []) → ⊥
 not_only quote v z f e l (Characters.more {value = u} {rest = rest} c d) =
     let i = first_is quote z f e in
     let s = first_read c in
@@ -376,7 +376,7 @@ pub read_none : (quote : ℕ) (body : Bytes) → IsReadTo quote body 0 []
 read_none quote body = record { reads = λ us d. d; leaves = λ us d. (us, d) }
 
 -- one more character is read
-pub read_more : (quote : ℕ) (body : Bytes) (at : ℕ) (values : List ℕ) (f : FrontCharacter) → IsReadTo quote body at values
+pub read_more : (quote : ℕ) (body : Bytes) (at : ℕ) (values : List ℕ) (f : FirstCharacter) → IsReadTo quote body at values
     → first_character quote (drop at body) ≡ Some f → IsReadTo quote body (at + f.len) (values ++ f.value ∷ [])
 read_more quote body at values f r e =
     let i = first_is quote (drop at body) f e in

@@ -17,13 +17,13 @@ use Rattle.c_lex.specs.LiteralReading.{HasSmallDigits, begins_hexadecimal, begin
 pub one_digits : {base : ℕ} {w : Bytes} {n m : ℕ} → HasDigits base w n → HasDigits base w m → n ≡ m
 one_digits h i = h.is_value ∙ sym i.is_value
 
--- the bytes `0x` or `0X` in front of some digits, seen from the whole
+-- the bytes `0x` or `0X` before some digits, seen from the whole
 pub hexadecimal_form : (w digits : Bytes) → (w ≡ codes "0x" ++ digits) ⊎ (w ≡ codes "0X" ++ digits)
     → (get_or w 0 0 ≡ 48) × ((get_or w 1 0 ≡ 120) ⊎ (get_or w 1 0 ≡ 88)) × (drop 2 w ≡ digits) × (w ≡ 48 ∷ get_or w 1 0 ∷ digits)
 hexadecimal_form w digits (inl e) = (ap (λ z. get_or z 0 0) e, inl (ap (λ z. get_or z 1 0) e), ap (drop 2) e, e ∙ ap (λ x. 48 ∷ x ∷ digits) (sym (ap (λ z. get_or z 1 0) e)))
 hexadecimal_form w digits (inr e) = (ap (λ z. get_or z 0 0) e, inr (ap (λ z. get_or z 1 0) e), ap (drop 2) e, e ∙ ap (λ x. 48 ∷ x ∷ digits) (sym (ap (λ z. get_or z 1 0) e)))
 
--- the letter behind the 0 of a hexadecimal constant is no octal digit, and goes on a number
+-- the letter after the 0 of a hexadecimal constant is no octal digit, and goes on a number
 letter_of : (x : ℕ) → (x ≡ 120) ⊎ (x ≡ 88) → (8 ≤ digit_value x) × (is_word x ≡ true)
 letter_of x (inl e) = subst (λ y. (8 ≤ digit_value y) × (is_word y ≡ true)) (sym e) (omega arith, refl)
 letter_of x (inr e) = subst (λ y. (8 ≤ digit_value y) × (is_word y ≡ true)) (sym e) (omega arith, refl)
@@ -36,7 +36,7 @@ no_octal w digits e h =
     let l = (letter_of (get_or w 1 0) f.1).0 in
     omega (arith, i.1.0)
 
--- the value of a hexadecimal constant is that of the digits behind `0x`
+-- the value of a hexadecimal constant is that of the digits after `0x`
 hexadecimal_digits : (w digits : Bytes) (n : ℕ) → (w ≡ codes "0x" ++ digits) ⊎ (w ≡ codes "0X" ++ digits) → HasDigits 16 digits n → HasDigits 16 (drop 2 w) n
 hexadecimal_digits w digits n e h = subst (λ z. HasDigits 16 z n) (sym (hexadecimal_form w digits e).2) h
 
@@ -175,7 +175,7 @@ octal_answers w r x f a =
     zero_first [] f = absurd (cc)
     zero_first (b ∷ w) f = grind (arith, nat_tests)
 
--- what begins with `0x` or `0X` has a value by the hexadecimal digits behind
+-- what begins with `0x` or `0X` has a value by the hexadecimal digits after
 only_hexadecimal : (w digits : Bytes) (n : ℕ) → (w ≡ codes "0x" ++ digits) ⊎ (w ≡ codes "0X" ++ digits) → HasValue w n → HasDigits 16 digits n
 only_hexadecimal w digits n e (HasValue.decimal g h) = absurd (g (hexadecimal_form w digits e).0)
 only_hexadecimal w digits n e (HasValue.octal g h) = absurd (no_octal w digits e h.digits)

@@ -2,7 +2,7 @@
 use Rattle.std.proofs.Common.{◌≡◌, ℕ, ◌+◌, ◌<◌, Bool, true, false, ◌&&◌, ◌||◌, ◌==◌, [], ◌∷◌, length, drop, Result, Ok, Err, pos, refl, sym, ap, ◌∙◌, subst, arith}
 use Rattle.std.proofs.lemmas.Bool.Decides.{nat_tests}
 use Rattle.c_lex.specs.declared.fault.LexFault.TheVariants as fault
-use Rattle.c_lex.specs.declared.front.Front.TheVariants as front
+use Rattle.c_lex.specs.declared.scan.Scanned.TheVariants as scanned
 use Rattle.c_lex.specs.declared.opening.Opening.{Opening}
 use Rattle.c_lex.specs.declared.opening.LinePart.{LinePart}
 use Rattle.c_lex.specs.declared.token.TokenKind.{TokenKind}
@@ -62,7 +62,7 @@ one_defines (Defines.large n f v l) (Defines.large k g w i) = refl
 one_defines (Defines.large n f v l) (Defines.new k g w i) = let same = one_value v w in absurd (omega (arith, same, l, i))
 one_defines (Defines.new n f v l) (Defines.twice e) = absurd (cc)
 one_defines (Defines.new n f v l) (Defines.large k g w i) = let same = one_value v w in absurd (omega (arith, same, l, i))
-one_defines {len = len} {d = d} (Defines.new n f v l) (Defines.new k g w i) = ap (λ x. Ok (front.Define d.name (signed d.negative x) len)) (one_value v w)
+one_defines {len = len} {d = d} (Defines.new n f v l) (Defines.new k g w i) = ap (λ x. Ok (scanned.Define d.name (signed d.negative x) len)) (one_value v w)
 
 -- the text of a directive says one thing at most
 one_says : {m : Macros} {at : ℕ} {line : Bytes} {r s : Found} → Says m at line r → Says m at line s → r ≡ s
@@ -103,7 +103,7 @@ one_word (IsWord.name n h) (IsWord.name o i) = refl
 
 -- a number is one thing at most
 one_number : {at : ℕ} {w : Bytes} {r s : Found} → IsNumber at w r → IsNumber at w s → r ≡ s
-one_number {w = w} (IsNumber.value n v l) (IsNumber.value k u i) = ap (λ x. Ok (front.Take (Const (pos x) w) (length w))) (one_value v u)
+one_number {w = w} (IsNumber.value n v l) (IsNumber.value k u i) = ap (λ x. Ok (scanned.Take (Const (pos x) w) (length w))) (one_value v u)
 one_number (IsNumber.value n v l) (IsNumber.large k u i) = let same = one_value v u in absurd (omega (arith, same, l, i))
 one_number (IsNumber.value n v l) (IsNumber.bad f) = absurd (f n v)
 one_number (IsNumber.large n v l) (IsNumber.value k u i) = let same = one_value v u in absurd (omega (arith, same, l, i))
@@ -118,14 +118,14 @@ one_character_token : {at : ℕ} {w : Bytes} {r s : Found} → IsCharacter at w 
 one_character_token {w = w} (IsCharacter.value v c) (IsCharacter.value u d) =
     let e = one_characters c d in
     let same : v ≡ u = cc in
-    ap (λ x. Ok (front.Take (Const (char_value x) w) (length w))) same
+    ap (λ x. Ok (scanned.Take (Const (char_value x) w) (length w))) same
 one_character_token (IsCharacter.value v c) (IsCharacter.bad f) = absurd (f v c)
 one_character_token (IsCharacter.bad f) (IsCharacter.value v c) = absurd (f v c)
 one_character_token (IsCharacter.bad f) (IsCharacter.bad g) = refl
 
 -- a string literal is one thing at most
 one_text_token : {at : ℕ} {w : Bytes} {r s : Found} → IsText at w r → IsText at w s → r ≡ s
-one_text_token {w = w} (IsText.value v c) (IsText.value u d) = ap (λ x. Ok (front.Take (Str x) (length w))) (one_characters c d)
+one_text_token {w = w} (IsText.value v c) (IsText.value u d) = ap (λ x. Ok (scanned.Take (Str x) (length w))) (one_characters c d)
 one_text_token (IsText.value v c) (IsText.bad f) = absurd (f v c)
 one_text_token (IsText.bad f) (IsText.value v c) = absurd (f v c)
 one_text_token (IsText.bad f) (IsText.bad g) = refl
@@ -133,8 +133,8 @@ one_text_token (IsText.bad f) (IsText.bad g) = refl
 -- one thing at most stands at a place
 one_found : {m : Macros} {at : ℕ} {z : Bytes} {begun : Bool} {o : Opening} {r s : Found} → Stands m at z begun o r → Stands m at z begun o s → r ≡ s
 one_found Stands.space Stands.space = refl
-one_found {z = z} (Stands.line_comment {n = n} f) (Stands.line_comment {n = k} g) = ap (λ x. Ok (front.Pass x)) (first_once _ z n k f g)
-one_found {z = z} (Stands.comment {n = n} f) (Stands.comment {n = k} g) = ap (λ x. Ok (front.Pass (x + 4))) (first_once _ (drop 2 z) n k f g)
+one_found {z = z} (Stands.line_comment {n = n} f) (Stands.line_comment {n = k} g) = ap (λ x. Ok (scanned.Pass x)) (first_once _ z n k f g)
+one_found {z = z} (Stands.comment {n = n} f) (Stands.comment {n = k} g) = ap (λ x. Ok (scanned.Pass (x + 4))) (first_once _ (drop 2 z) n k f g)
 one_found {z = z} (Stands.comment {n = n} f) (Stands.open_comment g) = absurd (nowhere_first _ (drop 2 z) n g f)
 one_found {z = z} (Stands.open_comment g) (Stands.comment {n = n} f) = absurd (nowhere_first _ (drop 2 z) n g f)
 one_found (Stands.open_comment f) (Stands.open_comment g) = refl
@@ -142,7 +142,7 @@ one_found (Stands.directive d) (Stands.directive e) = one_directive d e
 one_found Stands.late Stands.late = refl
 one_found {m = m} (Stands.word {kind = a} w rest e h k) (Stands.word {kind = b} v x f i j) =
     let same = (same_piece w rest v x (sym e ∙ f) h i).0 in
-    ap (λ c. Ok (front.Take c (length w))) (one_word k (subst (λ y. IsWord m y b) (sym same) j)) ∙ ap (λ y. Ok (front.Take b (length y))) same
+    ap (λ c. Ok (scanned.Take c (length w))) (one_word k (subst (λ y. IsWord m y b) (sym same) j)) ∙ ap (λ y. Ok (scanned.Take b (length y))) same
 one_found {at = at} {s = s} (Stands.number w rest e h k) (Stands.number v x f i j) =
     let same = (same_piece w rest v x (sym e ∙ f) h i).0 in
     one_number k (subst (λ y. IsNumber at y s) (sym same) j)
@@ -159,11 +159,11 @@ one_found (Stands.text w rest e h k) (Stands.open_text g) = absurd (g w rest e h
 one_found (Stands.open_text g) (Stands.text w rest e h k) = absurd (g w rest e h)
 one_found (Stands.open_text f) (Stands.open_text g) = refl
 one_found Stands.digraph Stands.digraph = refl
-one_found (Stands.mark p rest e h) (Stands.mark q x f i) =
+one_found (Stands.punctuator p rest e h) (Stands.punctuator q x f i) =
     let same = punct_same p q (same_piece _ rest _ x (sym e ∙ f) h i).0 in
-    ap (λ y. Ok (front.Take (Punct y) (length (punct_spelling y)))) same
-one_found (Stands.mark p rest e h) (Stands.stray g) = absurd (g (punct_spelling p) rest e h.piece)
-one_found (Stands.stray g) (Stands.mark p rest e h) = absurd (g (punct_spelling p) rest e h.piece)
+    ap (λ y. Ok (scanned.Take (Punct y) (length (punct_spelling y)))) same
+one_found (Stands.punctuator p rest e h) (Stands.stray g) = absurd (g (punct_spelling p) rest e h.piece)
+one_found (Stands.stray g) (Stands.punctuator p rest e h) = absurd (g (punct_spelling p) rest e h.piece)
 one_found (Stands.stray f) (Stands.stray g) = refl
 
 -- ---- the whole text

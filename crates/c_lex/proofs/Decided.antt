@@ -1,15 +1,15 @@
--- What the reading asks of some bytes has an answer: where a mark stands first, what a constant is, what characters are.
+-- What the reading asks of some bytes has an answer: where a target stands first, what a constant is, what characters are.
 use Rattle.std.proofs.Common.{◌≡◌, ◌≢◌, ◌⊎◌, inl, inr, ⊎_elim, ℕ, zero, suc, ℤ, pos, ◌^◌, ◌<◌, ◌≤◌, Bool, true, false, List, [], ◌∷◌, length, drop, map, Option, Some, None, Ok, Err, refl, ap, ◌∙◌, arith}
 use Rattle.std.specs.Char.{digit_value}
 use Rattle.std.specs.Option.{MatchOption}
 use Rattle.std.specs.Str.Parse.{AllDigits, digits_value}
 use Rattle.std.proofs.lemmas.Bool.{cases_lt, cases_eq}
 use Rattle.std.proofs.lemmas.List.{drop_all, length-drop}
-use Rattle.c_lex.specs.declared.character.FrontCharacter.{FrontCharacter}
+use Rattle.c_lex.specs.declared.character.FirstCharacter.{FirstCharacter}
 use Rattle.c_lex.specs.declared.constant.Constant.{Constant}
 use Rattle.c_lex.specs.declared.constant.Constant.TheVariants.{Value, TooLarge, Bad}
 use Rattle.c_lex.specs.declared.fault.LexFault.TheVariants as fault
-use Rattle.c_lex.specs.declared.front.Front.TheVariants as front
+use Rattle.c_lex.specs.declared.scan.Scanned.TheVariants as scanned
 use Rattle.c_lex.specs.declared.spelling.TheConstants.{KEYWORDS}
 use Rattle.c_lex.specs.declared.token.Keyword.{Keyword}
 use Rattle.c_lex.specs.declared.token.TokenKind.{TokenKind}
@@ -26,17 +26,17 @@ use Rattle.c_lex.proofs.Spelled.{looked_up, keywords_spelled, keyword_listed}
 
 -- ---- places
 
--- a mark stands somewhere first, or nowhere
+-- a target stands somewhere first, or nowhere
 abbrev pub FirstOrNowhere : (Bytes → Bool) → Bytes → Type 0
 FirstOrNowhere test z = ((n : ℕ) × IsFirstAt test z n) ⊎ IsNowhere test z
 
--- the mark stands at no place before n, seen from one byte earlier
+-- the target stands at no place before n, seen from one byte earlier
 not_earlier : (test : Bytes → Bool) (b : ℕ) (z : Bytes) (n : ℕ) → test (b ∷ z) ≡ false
     → ((m : ℕ) → m < n → test (drop m z) ≡ false) → (m : ℕ) → m < suc n → test (drop m (b ∷ z)) ≡ false
 not_earlier test b z n e f zero l = e
 not_earlier test b z n e f (suc m) l = f m (omega arith)
 
--- the mark stands at the front
+-- the target stands at the start
 first_here : (test : Bytes → Bool) (z : Bytes) → test z ≡ true → IsFirstAt test z 0
 first_here test z e = record { within = omega arith; holds = e; first = λ m l. absurd (omega arith) }
 
@@ -54,7 +54,7 @@ first_in_more test b z false e (inl h) =
 first_in_more test b z false e (inr h) =
     inr (λ m l. not_earlier test b z (suc (length z)) e (λ k s. h k (omega arith)) m (omega arith))
 
--- in each text a mark stands somewhere first, or nowhere
+-- in each text a target stands somewhere first, or nowhere
 pub first_or_nowhere : (test : Bytes → Bool) (z : Bytes) → FirstOrNowhere test z
 first_or_nowhere test [] = first_in_none test (test []) refl
 first_or_nowhere test (b ∷ z) = first_in_more test b z (test (b ∷ z)) refl (first_or_nowhere test z)
@@ -126,7 +126,7 @@ constant_answered w = constant_by w (begins_hexadecimal w) (begins_zero w) refl 
 
 -- the step of `number_is`, by what the word stands for
 number_by : (at : ℕ) (w : Bytes) (c : Constant) → Answers w c → (r : Found) × IsNumber at w r
-number_by at w (Value v) a = (Ok (front.Take (Const (pos a.0) w) (length w)), IsNumber.value a.0 a.1 a.2)
+number_by at w (Value v) a = (Ok (scanned.Take (Const (pos a.0) w) (length w)), IsNumber.value a.0 a.1 a.2)
 number_by at w TooLarge a = (Err (fault.ConstantTooLarge at), IsNumber.large a.0 a.1 a.2)
 number_by at w Bad a = (Err (fault.BadConstant at), IsNumber.bad a)
 
@@ -137,12 +137,12 @@ number_is at w = let a = constant_answered w in number_by at w a.0 a.1
 -- ---- literals
 
 -- the step of `character_is`, by what is read first between the quotes
-character_by : (at : ℕ) (w : Bytes) (o : Option FrontCharacter) → first_character 39 (between_quotes w) ≡ o
+character_by : (at : ℕ) (w : Bytes) (o : Option FirstCharacter) → first_character 39 (between_quotes w) ≡ o
     → (r : Found) × IsCharacter at w r
 character_by at w None e = (Err (fault.BadConstant at), IsCharacter.bad (λ v d. no_one 39 v (between_quotes w) e d))
 character_by at w (Some f) e =
     let z = between_quotes w in
-    ⊎_elim (λ l. (Ok (front.Take (Const (char_value f.value) w) (length w)), IsCharacter.value f.value (only_one 39 z f e l)))
+    ⊎_elim (λ l. (Ok (scanned.Take (Const (char_value f.value) w) (length w)), IsCharacter.value f.value (only_one 39 z f e l)))
     (λ n. (Err (fault.BadConstant at), IsCharacter.bad (λ v d. not_only 39 v z f e n d)))
     (cases_eq f.len (length z))
 
@@ -155,7 +155,7 @@ abbrev CharactersOrNot : ℕ → Bytes → Type 0
 CharactersOrNot quote z = ((values : List ℕ) × Characters quote z values) ⊎ ((values : List ℕ) → Characters quote z values → ⊥)
 
 -- the step of `characters_or_not`, by the first character
-characters_by : (quote b : ℕ) (z : Bytes) (o : Option FrontCharacter) → first_character quote (b ∷ z) ≡ o
+characters_by : (quote b : ℕ) (z : Bytes) (o : Option FirstCharacter) → first_character quote (b ∷ z) ≡ o
     → ((y : Bytes) → length y < length (b ∷ z) → CharactersOrNot quote y) → CharactersOrNot quote (b ∷ z)
 characters_by quote b z None e g = inr (λ values d. no_characters e (omega arith) d)
 characters_by quote b z (Some f) e g =
@@ -176,5 +176,5 @@ characters_up_to (suc n) quote (b ∷ z) l =
 pub text_is : (at : ℕ) (w : Bytes) → (r : Found) × IsText at w r
 text_is at w =
     let z = between_quotes w in
-    ⊎_elim (λ h. (Ok (front.Take (Str h.0) (length w)), IsText.value h.0 h.1)) (λ n. (Err (fault.BadConstant at), IsText.bad n))
+    ⊎_elim (λ h. (Ok (scanned.Take (Str h.0) (length w)), IsText.value h.0 h.1)) (λ n. (Err (fault.BadConstant at), IsText.bad n))
     (characters_up_to (length z) 34 z (omega arith))

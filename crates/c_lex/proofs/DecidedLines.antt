@@ -6,7 +6,7 @@ use Rattle.c_lex.specs.declared.constant.Constant.{Constant}
 use Rattle.c_lex.specs.declared.constant.Constant.TheVariants.{Value, TooLarge, Bad}
 use Rattle.c_lex.specs.declared.fault.LexFault.TheVariants as fault
 use Rattle.c_lex.specs.declared.form.DefineParts.{DefineParts}
-use Rattle.c_lex.specs.declared.front.Front.TheVariants as front
+use Rattle.c_lex.specs.declared.scan.Scanned.TheVariants as scanned
 use Rattle.c_lex.specs.declared.opening.LinePart.TheVariants as part
 use Rattle.c_lex.specs.Bytes.{Bytes, is_letter}
 use Rattle.c_lex.specs.Spellings.{lookup}
@@ -74,7 +74,7 @@ defines_by : (m : Macros) (at len : ℕ) (d : Definition) (o : Option ℤ) (n : 
     → HasValue d.number n → lookup m d.name ≡ o → (r : Found) × Defines m at len d r
 defines_by m at len d (Some v) n h e = (Err (fault.MacroTwice (at + d.name_at)), Defines.twice e)
 defines_by m at len d None n h e =
-    ⊎_elim (λ l. (Ok (front.Define d.name (signed d.negative n) len), Defines.new n e h l))
+    ⊎_elim (λ l. (Ok (scanned.Define d.name (signed d.negative n) len), Defines.new n e h l))
     (λ l. (Err (fault.ConstantTooLarge (at + d.number_at)), Defines.large n e h l))
     (cases_lt n (2 ^ 31))
 
@@ -111,7 +111,7 @@ line_by_parts m at line (Some p) e h =
 
 -- the step of `line_says`, by whether the line includes a header
 line_by_include : (m : Macros) (at : ℕ) (line : Bytes) (x : Bool) → is_include line ≡ x → (r : Found) × Says m at line r
-line_by_include m at line true e = (Ok (front.Pass (length line)), Says.include (include_is line e))
+line_by_include m at line true e = (Ok (scanned.Pass (length line)), Says.include (include_is line e))
 line_by_include m at line false e = line_by_parts m at line (parts_of line) e refl
 
 -- the text of a directive says something

@@ -7,7 +7,7 @@ pub mod MacroMaps
 pub mod Characters
 pub mod Constants
 pub mod Literals
-pub mod FrontParts
+pub mod ScanParts
 pub mod Sizes
 pub mod Progress
 pub mod Sources

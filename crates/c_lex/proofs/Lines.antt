@@ -49,7 +49,7 @@ before_append : (v w : Bytes) (r : Result Bytes ℕ) → before_line v (before_l
 before_append v w (Ok line) = ap Ok (sym (append_assoc v w line))
 before_append v w (Err n) = ap Err (omega (arith, length-append v w))
 
--- what the rest of the text gives stands behind the line so far
+-- what the rest of the text gives stands after the line so far
 abbrev pub IsLineTo : Bytes → ℕ → Bytes → Type 0
 IsLineTo text place line = (r : Result Bytes ℕ) → HasLine (drop place text) r → HasLine text (before_line line r)
 

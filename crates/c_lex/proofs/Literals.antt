@@ -1,4 +1,4 @@
--- Whole literals at the front of a text: one at most, and where it ends.
+-- Whole literals at the start of a text: one at most, and where it ends.
 use Rattle.std.proofs.Common.{◌≡◌, ◌≢◌, ℕ, suc, ◌+◌, ◌≤◌, ◌<◌, Bool, true, false, ◌&&◌, ◌==◌, if◌then◌else◌, [], ◌∷◌, ◌++◌, length, take, drop, get_or, Option, Some, None, refl, sym, ap, ◌∙◌, subst, arith, take-append-drop}
 use Rattle.std.proofs.lemmas.Bool.Decides.{nat_tests}
 use Rattle.std.proofs.lemmas.List.{length-take-le, take_at, at_drop_more, at_drop_all}
@@ -9,7 +9,7 @@ use Rattle.c_lex.proofs.Runs.{both_left, both_right}
 
 -- ---- where a literal ends
 
--- a front of z, from the place `at` to the place m, goes up to the closing quote
+-- a prefix of z, from the place `at` to the place m, goes up to the closing quote
 abbrev Ended : ℕ → Bool → ℕ → ℕ → Bytes → Type 0
 Ended quote passed at m z = (n : ℕ) × (m ≡ at + n) × (n ≤ length z) × (closes quote passed (take n z) ≡ true)
 
@@ -34,7 +34,7 @@ closes_by quote at m b z false false false e f g h =
           ∙ ap (λ t. if t then length (take r.0 z) == 0 else closes quote (b == 92) (take r.0 z)) f ∙ r.3,
     )
 
--- at the place that is found, the front closes
+-- at the place that is found, the prefix closes
 pub end_closes : (quote : ℕ) (passed : Bool) (at m : ℕ) (z : Bytes) → literal_end quote passed at z ≡ Some m → Ended quote passed at m z
 end_closes quote passed at m [] h = absurd (cc)
 end_closes quote passed at m (b ∷ z) h =
@@ -55,7 +55,7 @@ found_by quote at b v x false true y e f g h = g false h ∙ ap Some (omega arit
 found_by quote at b v x false false true e f g h = ap Some (omega (arith, none_left v h))
 found_by quote at b v x false false false e f g h = g (b == 92) h ∙ ap Some (omega arith)
 
--- where a front closes, its end is found
+-- where a prefix closes, its end is found
 pub end_found : (quote : ℕ) (passed : Bool) (at : ℕ) (v x : Bytes) → closes quote passed v ≡ true → literal_end quote passed at (v ++ x) ≡ Some (at + length v)
 end_found quote passed at [] x h = absurd (cc)
 end_found quote passed at (b ∷ v) x h =
@@ -74,7 +74,7 @@ quoted_end : (quote : ℕ) (w x : Bytes) → is_quoted quote w ≡ true → lite
 quoted_end quote [] x h = absurd (cc)
 quoted_end quote (b ∷ w) x h = end_found quote false 1 w x (both_right (b == quote) (closes quote false w) h) ∙ ap Some (omega arith)
 
--- two whole literals at the front of one text are equally long
+-- two whole literals at the start of one text are equally long
 quoted_length : (quote : ℕ) (w v x y : Bytes) → w ++ x ≡ v ++ y → is_quoted quote w ≡ true → is_quoted quote v ≡ true → length w ≡ length v
 quoted_length quote w v x y e h i =
     let f = quoted_end quote w x h in
@@ -83,7 +83,7 @@ quoted_length quote w v x y e h i =
     let both : Some (length w) ≡ Some (length v) = sym f ∙ same ∙ g in
     cc
 
--- a text has one whole literal at its front at most
+-- a text has one whole literal at its start at most
 pub one_quoted : (quote : ℕ) (w v x y : Bytes) → w ++ x ≡ v ++ y → is_quoted quote w ≡ true → is_quoted quote v ≡ true → w ≡ v
 one_quoted quote w v x y e h i =
     let l = quoted_length quote w v x y e h i in
@@ -115,23 +115,23 @@ stops_at_end quote at passed z l e = sym e ∙ at_drop_all (literal_end quote pa
 
 -- ---- what is answered of a text
 
--- a front that is a whole literal is found
-pub front_found : (quote n : ℕ) (z : Bytes) → n ≤ length z → is_quoted quote (take n z) ≡ true → literal_end quote false 1 (drop 1 z) ≡ Some n
-front_found quote n z l h =
+-- a prefix that is a whole literal is found
+pub literal_found : (quote n : ℕ) (z : Bytes) → n ≤ length z → is_quoted quote (take n z) ≡ true → literal_end quote false 1 (drop 1 z) ≡ Some n
+literal_found quote n z l h =
     ap (λ y. literal_end quote false 1 (drop 1 y)) (sym (take-append-drop n z)) ∙ quoted_end quote (take n z) (drop n z) h ∙ ap Some (length-take-le n z l)
 
--- where no end is found, no front is a whole literal
-pub front_missing : (quote n : ℕ) (z : Bytes) → literal_end quote false 1 (drop 1 z) ≡ None → is_quoted quote (take n z) ≡ true → ⊥
-front_missing quote n z e h =
+-- where no end is found, no prefix is a whole literal
+pub literal_missing : (quote n : ℕ) (z : Bytes) → literal_end quote false 1 (drop 1 z) ≡ None → is_quoted quote (take n z) ≡ true → ⊥
+literal_missing quote n z e h =
     let f : literal_end quote false 1 (drop 1 z) ≡ Some (length (take n z)) = ap (λ y. literal_end quote false 1 (drop 1 y)) (sym (take-append-drop n z)) ∙ quoted_end quote (take n z) (drop n z) h in
     let g : None ≡ Some (length (take n z)) = sym e ∙ f in
     absurd (cc)
 
 -- what is found is a whole literal
-pub found_front : (quote m : ℕ) (z : Bytes) → 0 < length z → get_or z 0 0 ≡ quote → literal_end quote false 1 (drop 1 z) ≡ Some m
+pub found_literal : (quote m : ℕ) (z : Bytes) → 0 < length z → get_or z 0 0 ≡ quote → literal_end quote false 1 (drop 1 z) ≡ Some m
     → (m ≤ length z) × (is_quoted quote (take m z) ≡ true)
-found_front quote m [] l q e = absurd (omega arith)
-found_front quote m (b ∷ z) l q e =
+found_literal quote m [] l q e = absurd (omega arith)
+found_literal quote m (b ∷ z) l q e =
     let r = end_closes quote false 1 m z e in
     let t : (b == quote) ≡ true = grind (arith, nat_tests) in
     let n : suc r.0 ≡ m = omega (arith, r.1) in
@@ -141,6 +141,6 @@ found_front quote m (b ∷ z) l q e =
 abbrev IsSame : Option ℕ → Option ℕ → Type 0
 IsSame a b = a ≡ b
 
--- where no end is found, a front that is a whole literal would be found
+-- where no end is found, a prefix that is a whole literal would be found
 pub none_only : (quote n : ℕ) (z : Bytes) → literal_end quote false 1 (drop 1 z) ≡ None → n ≤ length z → is_quoted quote (take n z) ≡ true → IsSame None (Some n)
-none_only quote n z e l h = sym e ∙ front_found quote n z l h
+none_only quote n z e l h = sym e ∙ literal_found quote n z l h

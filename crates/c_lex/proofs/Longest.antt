@@ -1,4 +1,4 @@
--- The longest piece at the front of a text.
+-- The longest piece at the start of a text.
 use Rattle.std.proofs.Common.{◌≡◌, ℕ, suc, ◌+◌, ◌≤◌, ◌<◌, get_or, Bool, true, false, ◌||◌, ◌==◌, [], ◌∷◌, ◌++◌, length, take, drop, refl, sym, ap, ◌∙◌, subst, arith}
 use Rattle.std.specs.Char.{is_ascii_digit}
 use Rattle.std.proofs.lemmas.Bool.Decides.{nat_tests}
@@ -8,7 +8,7 @@ use Rattle.c_lex.specs.Spellings.{punct_spelling}
 use Rattle.c_lex.specs.Pieces.{goes_on_word, goes_on_number, is_chain, IsPiece, IsLongest, is_identifier, is_number}
 use Rattle.c_lex.specs.Reading.{chain_len}
 use Rattle.c_lex.proofs.Spelled.{is_elsewhere, punct_not_elsewhere}
-use Rattle.c_lex.proofs.Runs.{run_is_number, run_longest, word_is_identifier, both_left, letter_no_digit, both_right, letter_elsewhere, digit_elsewhere, same_front}
+use Rattle.c_lex.proofs.Runs.{run_is_number, run_longest, word_is_identifier, both_left, letter_no_digit, both_right, letter_elsewhere, digit_elsewhere, same_prefix}
 
 -- ---- pieces by their first byte
 
@@ -66,34 +66,34 @@ number_longest b y l = record {
   longest = λ v z e p. run_longest goes_on_number b y v z e (λ c u i s. number_piece p c u i (subst (λ d. is_ascii_digit d ≡ true) (sym s) l));
 }
 
--- ---- at the front of a text
+-- ---- at the start of a text
 
 -- the longest piece at a letter is as long as its run
-pub word_front : (z : Bytes) (n : ℕ) → 0 < length z → is_letter (get_or z 0 0) ≡ true → n ≡ 1 + chain_len goes_on_word (get_or z 0 0) (drop 1 z)
+pub word_at_start : (z : Bytes) (n : ℕ) → 0 < length z → is_letter (get_or z 0 0) ≡ true → n ≡ 1 + chain_len goes_on_word (get_or z 0 0) (drop 1 z)
     → IsLongest (take n z) (drop n z) × (is_identifier (take n z) ≡ true)
-word_front [] n h l e = absurd (omega arith)
-word_front (b ∷ y) n h l e =
+word_at_start [] n h l e = absurd (omega arith)
+word_at_start (b ∷ y) n h l e =
     let f : suc (chain_len goes_on_word b y) ≡ n = omega arith in
     subst (λ k. IsLongest (take k (b ∷ y)) (drop k (b ∷ y)) × (is_identifier (take k (b ∷ y)) ≡ true)) f (word_longest b y l, word_is_identifier b y l)
 
 -- the longest piece at a digit is as long as its run
-pub number_front : (z : Bytes) (n : ℕ) → 0 < length z → is_ascii_digit (get_or z 0 0) ≡ true → n ≡ 1 + chain_len goes_on_number (get_or z 0 0) (drop 1 z)
+pub number_at_start : (z : Bytes) (n : ℕ) → 0 < length z → is_ascii_digit (get_or z 0 0) ≡ true → n ≡ 1 + chain_len goes_on_number (get_or z 0 0) (drop 1 z)
     → IsLongest (take n z) (drop n z) × (is_number (take n z) ≡ true)
-number_front [] n h l e = absurd (omega arith)
-number_front (b ∷ y) n h l e =
+number_at_start [] n h l e = absurd (omega arith)
+number_at_start (b ∷ y) n h l e =
     let f : suc (chain_len goes_on_number b y) ≡ n = omega arith in
     subst (λ k. IsLongest (take k (b ∷ y)) (drop k (b ∷ y)) × (is_number (take k (b ∷ y)) ≡ true)) f (number_longest b y l, run_is_number b y l)
 
--- where a text begins no word and no number, each piece at its front is a punctuator
-pub other_front : (z v x : Bytes) → is_letter (get_or z 0 0) ≡ false → is_ascii_digit (get_or z 0 0) ≡ false → z ≡ v ++ x → IsPiece v → (p : Punct) × (v ≡ punct_spelling p)
-other_front z [] x l d e q = let h = piece_not_empty q in absurd (omega arith)
-other_front z (c ∷ u) x l d e q =
+-- where a text begins no word and no number, each piece at its start is a punctuator
+pub other_at_start : (z v x : Bytes) → is_letter (get_or z 0 0) ≡ false → is_ascii_digit (get_or z 0 0) ≡ false → z ≡ v ++ x → IsPiece v → (p : Punct) × (v ≡ punct_spelling p)
+other_at_start z [] x l d e q = let h = piece_not_empty q in absurd (omega arith)
+other_at_start z (c ∷ u) x l d e q =
     let first : get_or z 0 0 ≡ c = ap (λ y. get_or y 0 0) e in
     other_piece q c u refl (subst (λ b. is_letter b ≡ false) first l) (subst (λ b. is_ascii_digit b ≡ false) first d)
 
--- one longest piece at most stands at the front
+-- one longest piece at most stands at the start
 pub same_piece : (w rest v z : Bytes) → w ++ rest ≡ v ++ z → IsLongest w rest → IsLongest v z → (w ≡ v) × (rest ≡ z)
 same_piece w rest v z e h i =
     let p = h.longest v z e i.piece in
     let q = i.longest w rest (sym e) h.piece in
-    same_front w rest v z e (omega arith)
+    same_prefix w rest v z e (omega arith)

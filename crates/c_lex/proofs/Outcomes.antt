@@ -6,7 +6,7 @@ use Rattle.std.proofs.lemmas.Bool.{cases_lt}
 use Rattle.std.proofs.lemmas.Bool.Decides.{nat_tests}
 use Rattle.std.proofs.lemmas.List.{length-drop}
 use Rattle.c_lex.specs.declared.fault.LexFault.TheVariants as fault
-use Rattle.c_lex.specs.declared.front.Front.TheVariants as front
+use Rattle.c_lex.specs.declared.scan.Scanned.TheVariants as scanned
 use Rattle.c_lex.specs.declared.opening.Opening.{Opening}
 use Rattle.c_lex.specs.declared.opening.Opening.TheVariants as opening
 use Rattle.c_lex.specs.declared.spelling.TheConstants.{PUNCTUATORS}
@@ -23,13 +23,13 @@ use Rattle.c_lex.specs.Laws.{EachHasOutcome}
 use Rattle.c_lex.specs.Lexemes.{Lexeme, span_at}
 use Rattle.c_lex.specs.Reading.{chain_len}
 use Rattle.c_lex.specs.Tokens.{Macros, first_macros, Found, Outcome, also, IsDirective, IsNumber, IsCharacter, IsText, Defines, Says, Stands, Cuts, Lexes}
-use Rattle.c_lex.proofs.Appends.{front_taken}
+use Rattle.c_lex.proofs.Appends.{prefix_taken}
 use Rattle.c_lex.proofs.Decided.{first_or_nowhere, word_is, number_is, character_is, text_is}
 use Rattle.c_lex.proofs.DecidedLines.{directive_is}
-use Rattle.c_lex.proofs.FrontParts.{word_stands, number_stands, character_stands, text_stands, none_quoted, mark_is, no_mark, mark_stands}
+use Rattle.c_lex.proofs.ScanParts.{word_stands, number_stands, character_stands, text_stands, none_quoted, punctuator_is, no_punctuator, punctuator_stands}
 use Rattle.c_lex.proofs.Lines.{line_ends_somewhere}
-use Rattle.c_lex.proofs.Literals.{found_front, front_missing}
-use Rattle.c_lex.proofs.Longest.{word_front, number_front}
+use Rattle.c_lex.proofs.Literals.{found_literal, literal_missing}
+use Rattle.c_lex.proofs.Longest.{word_at_start, number_at_start}
 use Rattle.c_lex.proofs.Runs.{at_most_three, chain_len_within}
 use Rattle.c_lex.proofs.Sizes.{stands_within}
 use Rattle.c_lex.proofs.Sources.{other_is_trigraph}
@@ -47,7 +47,7 @@ record HasPunct (z : Bytes) (n : ℕ) : Type 0 where
   within : n ≤ length z
   spelled : take n z ≡ punct_spelling punct
 
--- no punctuator at the front has n bytes
+-- no punctuator at the start has n bytes
 abbrev NoPunct : Bytes → ℕ → Type 0
 NoPunct z n = (q : PunctKind) (rest : Bytes) → z ≡ punct_spelling q ++ rest → length (punct_spelling q) ≢ n
 
@@ -57,7 +57,7 @@ punct_by : (z : Bytes) (n : ℕ) (o : Option PunctKind) → n ≤ length z
     → HasPunct z n ⊎ NoPunct z n
 punct_by z n (Some p) l h = inl (record { punct = p; within = l; spelled = h })
 punct_by z n None l h =
-    inr (λ q rest e s. h q (ap (take n) e ∙ ap (λ k. take k (punct_spelling q ++ rest)) (sym s) ∙ front_taken (punct_spelling q) rest))
+    inr (λ q rest e s. h q (ap (take n) e ∙ ap (λ k. take k (punct_spelling q ++ rest)) (sym s) ∙ prefix_taken (punct_spelling q) rest))
 
 -- the step of `punct_or_not` at enough bytes
 punct_within : (z : Bytes) (n : ℕ) (o : Option PunctKind) → n ≤ length z
@@ -66,34 +66,34 @@ punct_within z n o l e =
     punct_by z n o l
     (looked_up punct_spelling (map (λ entry. (entry.0.now, entry.1)) PUNCTUATORS) (take n z) o punctuators_spelled punctuator_listed e)
 
--- the first n bytes are a punctuator, or no punctuator at the front has so many
+-- the first n bytes are a punctuator, or no punctuator at the start has so many
 punct_or_not : (z : Bytes) (n : ℕ) → HasPunct z n ⊎ NoPunct z n
 punct_or_not z n =
     ⊎_elim (λ l. inr (λ q rest e s. omega (arith, ap length e, length-append (punct_spelling q) rest)))
     (λ l. punct_within z n (lookup (map (λ entry. (entry.0.now, entry.1)) PUNCTUATORS) (take n z)) l refl)
     (cases_lt (length z) n)
 
--- the punctuator of n bytes is a token, where none at the front has more
-mark_found : (m : Macros) (at : ℕ) (z : Bytes) (begun : Bool) (n : ℕ)
+-- the punctuator of n bytes is a token, where none at the start has more
+punctuator_found : (m : Macros) (at : ℕ) (z : Bytes) (begun : Bool) (n : ℕ)
     → is_letter (get_or z 0 0) ≡ false → is_ascii_digit (get_or z 0 0) ≡ false
     → HasPunct z n → ((q : PunctKind) (rest : Bytes) → z ≡ punct_spelling q ++ rest → length (punct_spelling q) ≤ n)
-    → HasFound m at z begun opening.Mark
-mark_found m at z begun n l d h f =
-    (Ok (front.Take (Punct h.punct) n), mark_stands m at z begun h.punct n (mark_is z n h.punct l d h.within h.spelled f))
+    → HasFound m at z begun opening.Other
+punctuator_found m at z begun n l d h f =
+    (Ok (scanned.Take (Punct h.punct) n), punctuator_stands m at z begun h.punct n (punctuator_is z n h.punct l d h.within h.spelled f))
 
 -- the longest punctuator stands there, or a stray byte
-mark_or_stray : (m : Macros) (at : ℕ) (z : Bytes) (begun : Bool)
+punctuator_or_stray : (m : Macros) (at : ℕ) (z : Bytes) (begun : Bool)
     → is_letter (get_or z 0 0) ≡ false → is_ascii_digit (get_or z 0 0) ≡ false
-    → HasPunct z 3 ⊎ NoPunct z 3 → HasPunct z 2 ⊎ NoPunct z 2 → HasPunct z 1 ⊎ NoPunct z 1 → HasFound m at z begun opening.Mark
-mark_or_stray m at z begun l d (inl h) y x = mark_found m at z begun 3 l d h (λ q rest e. at_most_three q)
-mark_or_stray m at z begun l d (inr f) (inl h) x =
-    mark_found m at z begun 2 l d h (λ q rest e. let no_three = f q rest e in let short = at_most_three q in omega arith)
-mark_or_stray m at z begun l d (inr f) (inr g) (inl h) =
-    mark_found m at z begun 1 l d h
+    → HasPunct z 3 ⊎ NoPunct z 3 → HasPunct z 2 ⊎ NoPunct z 2 → HasPunct z 1 ⊎ NoPunct z 1 → HasFound m at z begun opening.Other
+punctuator_or_stray m at z begun l d (inl h) y x = punctuator_found m at z begun 3 l d h (λ q rest e. at_most_three q)
+punctuator_or_stray m at z begun l d (inr f) (inl h) x =
+    punctuator_found m at z begun 2 l d h (λ q rest e. let no_three = f q rest e in let short = at_most_three q in omega arith)
+punctuator_or_stray m at z begun l d (inr f) (inr g) (inl h) =
+    punctuator_found m at z begun 1 l d h
     (λ q rest e. let no_three = f q rest e in let no_two = g q rest e in let short = at_most_three q in omega arith)
-mark_or_stray m at z begun l d (inr f) (inr g) (inr h) = (
+punctuator_or_stray m at z begun l d (inr f) (inr g) (inr h) = (
   Err (fault.StrayByte at),
-  Stands.stray (no_mark z l d (λ q rest e.
+  Stands.stray (no_punctuator z l d (λ q rest e.
       let no_three = f q rest e in
       let no_two = g q rest e in
       let no_one = h q rest e in
@@ -105,13 +105,13 @@ mark_or_stray m at z begun l d (inr f) (inr g) (inr h) = (
 -- a comment goes to the end of its line
 line_comment_there : (m : Macros) (at : ℕ) (z : Bytes) (begun : Bool) → HasFound m at z begun opening.LineComment
 line_comment_there m at z begun =
-    ⊎_elim (λ h. (Ok (front.Pass h.0), Stands.line_comment h.1)) (λ f. absurd (line_ends_somewhere z f))
+    ⊎_elim (λ h. (Ok (scanned.Pass h.0), Stands.line_comment h.1)) (λ f. absurd (line_ends_somewhere z f))
     (first_or_nowhere is_line_end z)
 
 -- a comment is closed, or not
 comment_there : (m : Macros) (at : ℕ) (z : Bytes) (begun : Bool) → HasFound m at z begun opening.BlockComment
 comment_there m at z begun =
-    ⊎_elim (λ h. (Ok (front.Pass (h.0 + 4)), Stands.comment h.1)) (λ f. (Err (fault.OpenComment at), Stands.open_comment f))
+    ⊎_elim (λ h. (Ok (scanned.Pass (h.0 + 4)), Stands.comment h.1)) (λ f. (Err (fault.OpenComment at), Stands.open_comment f))
     (first_or_nowhere is_comment_end (drop 2 z))
 
 -- a directive, or one that comes too late
@@ -125,24 +125,24 @@ word_there m at b z begun e =
     let n = 1 + chain_len goes_on_word b z in
     let w = word_is m (take n (b ∷ z)) in
     let fits = chain_len_within goes_on_word b z in
-    let longest = (word_front (b ∷ z) n (omega arith) e refl).0 in
-    (Ok (front.Take w.0 n), word_stands m at (b ∷ z) begun w.0 n (omega (arith, fits)) longest w.1)
+    let longest = (word_at_start (b ∷ z) n (omega arith) e refl).0 in
+    (Ok (scanned.Take w.0 n), word_stands m at (b ∷ z) begun w.0 n (omega (arith, fits)) longest w.1)
 
 -- a number at a digit
 number_there : (m : Macros) (at b : ℕ) (z : Bytes) (begun : Bool) → is_ascii_digit b ≡ true → HasFound m at (b ∷ z) begun opening.Digit
 number_there m at b z begun e =
     let n = 1 + chain_len goes_on_number b z in
     let w = number_is at (take n (b ∷ z)) in
-    (w.0, number_stands m at (b ∷ z) begun w.0 n (number_front (b ∷ z) n (omega arith) e refl).0 w.1)
+    (w.0, number_stands m at (b ∷ z) begun w.0 n (number_at_start (b ∷ z) n (omega arith) e refl).0 w.1)
 
 -- the step of `character_there`, by the end of the literal
 character_by : (m : Macros) (at b : ℕ) (z : Bytes) (begun : Bool) (o : Option ℕ) → b ≡ 39 → literal_end 39 false 1 z ≡ o
     → HasFound m at (b ∷ z) begun opening.Character
 character_by m at b z begun None e h =
-    (Err (fault.OpenLiteral at), Stands.open_character (none_quoted 39 (b ∷ z) (λ n q. front_missing 39 n (b ∷ z) h q)))
+    (Err (fault.OpenLiteral at), Stands.open_character (none_quoted 39 (b ∷ z) (λ n q. literal_missing 39 n (b ∷ z) h q)))
 character_by m at b z begun (Some n) e h =
     let w = character_is at (take n (b ∷ z)) in
-    (w.0, character_stands m at (b ∷ z) begun w.0 n (found_front 39 n (b ∷ z) (omega arith) e h).1 w.1)
+    (w.0, character_stands m at (b ∷ z) begun w.0 n (found_literal 39 n (b ∷ z) (omega arith) e h).1 w.1)
 
 -- a character constant at a quote
 character_there : (m : Macros) (at b : ℕ) (z : Bytes) (begun : Bool) → (b == 39) ≡ true → HasFound m at (b ∷ z) begun opening.Character
@@ -152,10 +152,10 @@ character_there m at b z begun e = character_by m at b z begun (literal_end 39 f
 text_by : (m : Macros) (at b : ℕ) (z : Bytes) (begun : Bool) (o : Option ℕ) → b ≡ 34 → literal_end 34 false 1 z ≡ o
     → HasFound m at (b ∷ z) begun opening.Text
 text_by m at b z begun None e h =
-    (Err (fault.OpenLiteral at), Stands.open_text (none_quoted 34 (b ∷ z) (λ n q. front_missing 34 n (b ∷ z) h q)))
+    (Err (fault.OpenLiteral at), Stands.open_text (none_quoted 34 (b ∷ z) (λ n q. literal_missing 34 n (b ∷ z) h q)))
 text_by m at b z begun (Some n) e h =
     let w = text_is at (take n (b ∷ z)) in
-    (w.0, text_stands m at (b ∷ z) begun w.0 n (found_front 34 n (b ∷ z) (omega arith) e h).1 w.1)
+    (w.0, text_stands m at (b ∷ z) begun w.0 n (found_literal 34 n (b ∷ z) (omega arith) e h).1 w.1)
 
 -- a string literal at a quote
 text_there : (m : Macros) (at b : ℕ) (z : Bytes) (begun : Bool) → (b == 34) ≡ true → HasFound m at (b ∷ z) begun opening.Text
@@ -167,8 +167,8 @@ stands_by : (m : Macros) (at b : ℕ) (z : Bytes) (begun : Bool) (s l d h c t g 
     → HasFound m at (b ∷ z) begun
     (if s then opening.Space else if l then opening.Letter else if d then opening.Digit else if h then opening.Hash
     else if c then opening.Character else if t then opening.Text else if g then opening.LineComment
-    else if i then opening.BlockComment else if j then opening.Digraph else opening.Mark)
-stands_by m at b z begun true l d h c t g i j el ed ec et = (Ok (front.Pass 1), Stands.space)
+    else if i then opening.BlockComment else if j then opening.Digraph else opening.Other)
+stands_by m at b z begun true l d h c t g i j el ed ec et = (Ok (scanned.Pass 1), Stands.space)
 stands_by m at b z begun false true d h c t g i j el ed ec et = word_there m at b z begun el
 stands_by m at b z begun false false true h c t g i j el ed ec et = number_there m at b z begun ed
 stands_by m at b z begun false false false true c t g i j el ed ec et = hash_there m at (b ∷ z) begun
@@ -178,7 +178,7 @@ stands_by m at b z begun false false false false false false true i j el ed ec e
 stands_by m at b z begun false false false false false false false true j el ed ec et = comment_there m at (b ∷ z) begun
 stands_by m at b z begun false false false false false false false false true el ed ec et = (Err (fault.Digraph at), Stands.digraph)
 stands_by m at b z begun false false false false false false false false false el ed ec et =
-    mark_or_stray m at (b ∷ z) begun el ed (punct_or_not (b ∷ z) 3) (punct_or_not (b ∷ z) 2) (punct_or_not (b ∷ z) 1)
+    punctuator_or_stray m at (b ∷ z) begun el ed (punct_or_not (b ∷ z) 3) (punct_or_not (b ∷ z) 2) (punct_or_not (b ∷ z) 1)
 
 -- at each place something stands
 something_stands : (m : Macros) (at b : ℕ) (z : Bytes) (begun : Bool) → HasFound m at (b ∷ z) begun (opening_of (b ∷ z))
@@ -192,18 +192,18 @@ something_stands m at b z begun =
 abbrev HasCut : Bool → Macros → ℕ → Bytes → Type 0
 HasCut begun m at z = (r : Outcome) × Cuts begun m at z r
 
--- the step of `cut_up_to`, by what stands at the front
+-- the step of `cut_up_to`, by what stands at the start
 cut_by : (begun : Bool) (m : Macros) (at b : ℕ) (z : Bytes) (r : Found) → Stands m at (b ∷ z) begun (opening_of (b ∷ z)) r
     → ((c : Bool) (l : Macros) (place : ℕ) (y : Bytes) → length y < length (b ∷ z) → HasCut c l place y) → HasCut begun m at (b ∷ z)
-cut_by begun m at b z (Ok (front.Pass len)) h g =
+cut_by begun m at b z (Ok (scanned.Pass len)) h g =
     let w = stands_within h refl (omega arith) in
     let rest = g begun m (at + len) (drop len (b ∷ z)) (omega (arith, w.0, length-drop len (b ∷ z))) in
     (rest.0, Cuts.pass len h rest.1)
-cut_by begun m at b z (Ok (front.Define name value len)) h g =
+cut_by begun m at b z (Ok (scanned.Define name value len)) h g =
     let w = stands_within h refl (omega arith) in
     let rest = g begun ((name, value) ∷ m) (at + len) (drop len (b ∷ z)) (omega (arith, w.0, length-drop len (b ∷ z))) in
     (rest.0, Cuts.define name value len h rest.1)
-cut_by begun m at b z (Ok (front.Take kind len)) h g =
+cut_by begun m at b z (Ok (scanned.Take kind len)) h g =
     let w = stands_within h refl (omega arith) in
     let rest = g true m (at + len) (drop len (b ∷ z)) (omega (arith, w.0, length-drop len (b ∷ z))) in
     (also (kind, span_at at len) rest.0, Cuts.token kind len h rest.1)
@@ -281,7 +281,7 @@ stands_not_memory (Stands.open_character f) q = absurd (cc)
 stands_not_memory (Stands.text w rest e h k) q = text_not_memory k q
 stands_not_memory (Stands.open_text f) q = absurd (cc)
 stands_not_memory Stands.digraph q = absurd (cc)
-stands_not_memory (Stands.mark p rest e h) q = absurd (cc)
+stands_not_memory (Stands.punctuator p rest e h) q = absurd (cc)
 stands_not_memory (Stands.stray f) q = absurd (cc)
 
 -- the step of `cut_not_memory` after a token

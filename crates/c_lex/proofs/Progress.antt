@@ -2,8 +2,8 @@
 use Rattle.std.proofs.Common.{◌≡◌, ℕ, ℤ, ◌+◌, ◌-◌, ◌<◌, ◌≤◌, Bool, true, false, List, [], ◌∷◌, ◌++◌, length, take, drop, Ok, Err, refl, sym, ap, subst, arith, append_assoc}
 use Rattle.std.proofs.lemmas.List.{take_rest, append-nil, drop-drop, length-drop}
 use Rattle.c_lex.specs.declared.fault.LexFault.{LexFault}
-use Rattle.c_lex.specs.declared.front.Front.{Front}
-use Rattle.c_lex.specs.declared.front.Front.TheVariants as front
+use Rattle.c_lex.specs.declared.scan.Scanned.{Scanned}
+use Rattle.c_lex.specs.declared.scan.Scanned.TheVariants as scanned
 use Rattle.c_lex.specs.declared.macros.MacroMap.{MacroMap}
 use Rattle.c_lex.specs.declared.token.TokenKind.{TokenKind}
 use Rattle.c_lex.specs.Bytes.{Bytes}
@@ -16,20 +16,20 @@ use Rattle.c_lex.proofs.Sizes.{IsWithin, stands_within}
 -- ---- the steps of a cut
 
 -- something is passed over
-cut_pass : {begun : Bool} {m : Macros} {at : ℕ} (z : Bytes) {r : Outcome} (len : ℕ) → 1 ≤ length z → Stands m at z begun (opening_of z) (Ok (front.Pass len))
+cut_pass : {begun : Bool} {m : Macros} {at : ℕ} (z : Bytes) {r : Outcome} (len : ℕ) → 1 ≤ length z → Stands m at z begun (opening_of z) (Ok (scanned.Pass len))
     → Cuts begun m (at + len) (drop len z) r → Cuts begun m at z r
 cut_pass [] len l s d = absurd (omega arith)
 cut_pass (b ∷ z) len l s d = Cuts.pass len s d
 
 -- a macro is defined
 cut_define : {begun : Bool} {m : Macros} {at : ℕ} (z : Bytes) {r : Outcome} (name : Bytes) (value : ℤ) (len : ℕ) → 1 ≤ length z
-    → Stands m at z begun (opening_of z) (Ok (front.Define name value len)) → Cuts begun ((name, value) ∷ m) (at + len) (drop len z) r → Cuts begun m at z r
+    → Stands m at z begun (opening_of z) (Ok (scanned.Define name value len)) → Cuts begun ((name, value) ∷ m) (at + len) (drop len z) r → Cuts begun m at z r
 cut_define [] name value len l s d = absurd (omega arith)
 cut_define (b ∷ z) name value len l s d = Cuts.define name value len s d
 
 -- a token is taken
 cut_token : {begun : Bool} {m : Macros} {at : ℕ} (z : Bytes) {r : Outcome} (kind : TokenKind) (len : ℕ) → 1 ≤ length z
-    → Stands m at z begun (opening_of z) (Ok (front.Take kind len)) → Cuts true m (at + len) (drop len z) r → Cuts begun m at z (also (kind, span_at at len) r)
+    → Stands m at z begun (opening_of z) (Ok (scanned.Take kind len)) → Cuts true m (at + len) (drop len z) r → Cuts begun m at z (also (kind, span_at at len) r)
 cut_token [] kind len l s d = absurd (omega arith)
 cut_token (b ∷ z) kind len l s d = Cuts.token kind len s d
 
@@ -50,7 +50,7 @@ after_also : (read : List Lexeme) (t : Lexeme) (r : Outcome) → after read (als
 after_also read t (Ok ts) = ap Ok (sym (append_assoc read (t ∷ []) ts))
 after_also read t (Err f) = refl
 
--- the outcome of what is left, behind the tokens that were read, is the outcome of the whole text
+-- the outcome of what is left, after the tokens that were read, is the outcome of the whole text
 pub record IsReadTo (bytes : Bytes) (map : MacroMap) (begun : Bool) (at : ℕ) (read : List Lexeme) : Type 0 where
   pub macros : Macros
   pub known : Knows map macros
@@ -69,7 +69,7 @@ abbrev pub Stood : MacroMap → Bool → ℕ → Bytes → Found → Type 0
 Stood map begun at bytes r = (m : Macros) → Knows map m → Stands m at (drop at bytes) begun (opening_of (drop at bytes)) r
 
 -- what is answered of the rest of a text stands at its place
-pub stood_at : (map : MacroMap) (begun : Bool) (at : ℕ) (bytes : Bytes) (found x : Front) → found ≡ x
+pub stood_at : (map : MacroMap) (begun : Bool) (at : ℕ) (bytes : Bytes) (found x : Scanned) → found ≡ x
     → ((m : Macros) → Knows map m → Stands m at (take (length bytes - at) (drop at bytes)) begun (opening_of (take (length bytes - at) (drop at bytes))) (Ok found)) → Stood map begun at bytes (Ok x)
 stood_at map begun at bytes found x e h =
     subst (λ y. Stood map begun at bytes (Ok y)) e
@@ -81,7 +81,7 @@ some_left bytes at l = omega (arith, length-drop at bytes)
 
 -- something is passed over
 pub read_pass : (bytes : Bytes) (map : MacroMap) (begun : Bool) (at : ℕ) (read : List Lexeme) (len : ℕ) → at < length bytes → IsReadTo bytes map begun at read
-    → Stood map begun at bytes (Ok (front.Pass len)) → IsReadTo bytes map begun (at + len) read
+    → Stood map begun at bytes (Ok (scanned.Pass len)) → IsReadTo bytes map begun (at + len) read
 read_pass bytes map begun at read len l h s = record {
   macros = h.macros;
   known = h.known;
@@ -90,7 +90,7 @@ read_pass bytes map begun at read len l h s = record {
 
 -- a macro is defined
 pub read_define : (bytes : Bytes) (map more : MacroMap) (begun : Bool) (at : ℕ) (read : List Lexeme) (name : Bytes) (value : ℤ) (len : ℕ) → at < length bytes → IsReadTo bytes map begun at read
-    → Stood map begun at bytes (Ok (front.Define name value len))
+    → Stood map begun at bytes (Ok (scanned.Define name value len))
     → ((m : Macros) → Knows map m → Knows more ((name, value) ∷ m)) → IsReadTo bytes more begun (at + len) read
 read_define bytes map more begun at read name value len l h s k = record {
   macros = (name, value) ∷ h.macros;
@@ -100,7 +100,7 @@ read_define bytes map more begun at read name value len l h s k = record {
 
 -- a token is read
 pub read_token : (bytes : Bytes) (map : MacroMap) (begun : Bool) (at : ℕ) (read : List Lexeme) (kind : TokenKind) (len : ℕ) → at < length bytes → IsReadTo bytes map begun at read
-    → Stood map begun at bytes (Ok (front.Take kind len))
+    → Stood map begun at bytes (Ok (scanned.Take kind len))
     → IsReadTo bytes map true (at + len) (read ++ (kind, span_at at len) ∷ [])
 read_token bytes map begun at read kind len l h s = record {
   macros = h.macros;
@@ -138,12 +138,12 @@ placed_earlier from at end (Ok []) l h = omega arith
 placed_earlier from at end (Ok (t ∷ ts)) l h = (omega (arith, h.0), h.1, h.2)
 placed_earlier from at end (Err f) l h = h
 
--- a token before what is placed behind it
+-- a token before what is placed after it
 placed_also : (at end : ℕ) (kind : TokenKind) (len : ℕ) (r : Outcome) → 1 ≤ len → IsPlacedFrom (at + len) end r → IsPlacedFrom at end (also (kind, span_at at len) r)
 placed_also at end kind len (Ok ts) l h = (omega arith, omega arith, h)
 placed_also at end kind len (Err f) l h = h
 
--- what is left behind some bytes ends at the same place
+-- what is left after some bytes ends at the same place
 same_end : (at len : ℕ) (z : Bytes) → len ≤ length z → at + len + length (drop len z) ≡ at + length z
 same_end at len z l = omega (arith, length-drop len z)
 

@@ -59,7 +59,7 @@ within_by : (goes : ℕ → ℕ → Bool) (before b : ℕ) (z v : Bytes) (x : Bo
 within_by goes before b z v true e g h = omega arith
 within_by goes before b z v false e g h = absurd (cc)
 
--- no longer front is a chain
+-- no longer prefix is a chain
 chain_within : (goes : ℕ → ℕ → Bool) (before : ℕ) (z v x : Bytes) → z ≡ v ++ x → is_chain goes before v ≡ true → length v ≤ chain_len goes before z
 chain_within goes before z [] x e h = omega arith
 chain_within goes before [] (c ∷ v) x e h = absurd (cc)
@@ -83,7 +83,7 @@ chain_len_within goes before (b ∷ z) = len_by (goes before b) (chain_len goes 
 
 -- ---- the longest run
 
--- a run is as long as each piece at its place that is a chain behind its first byte
+-- a run is as long as each piece at its place that is a chain after its first byte
 pub run_longest : (goes : ℕ → ℕ → Bool) (b : ℕ) (y v z : Bytes) → (b ∷ take (chain_len goes b y) y) ++ drop (chain_len goes b y) y ≡ v ++ z
     → ((c : ℕ) (u : Bytes) → v ≡ c ∷ u → c ≡ b → is_chain goes c u ≡ true) → length v ≤ length (b ∷ take (chain_len goes b y) y)
 run_longest goes b y [] z e f = omega arith
@@ -138,15 +138,15 @@ number_no_punct (b ∷ w) p h e =
 pub at_most_three : (p : PunctKind) → length (punct_spelling p) ≤ 3
 at_most_three p = let h = punct_short p in grind (arith, nat_tests)
 
--- ---- fronts
+-- ---- prefixes
 
--- fronts of one length of one text are equal
-pub same_front : (a b c d : Bytes) → a ++ b ≡ c ++ d → length a ≡ length c → (a ≡ c) × (b ≡ d)
-same_front [] b [] d e h = (refl, e)
-same_front [] b (y ∷ c) d e h = absurd (omega arith)
-same_front (x ∷ a) b [] d e h = absurd (omega arith)
-same_front (x ∷ a) b (y ∷ c) d e h =
+-- prefixes of one length of one text are equal
+pub same_prefix : (a b c d : Bytes) → a ++ b ≡ c ++ d → length a ≡ length c → (a ≡ c) × (b ≡ d)
+same_prefix [] b [] d e h = (refl, e)
+same_prefix [] b (y ∷ c) d e h = absurd (omega arith)
+same_prefix (x ∷ a) b [] d e h = absurd (omega arith)
+same_prefix (x ∷ a) b (y ∷ c) d e h =
     let p : x ≡ y = cc in
     let q : a ++ b ≡ c ++ d = cc in
-    let r = same_front a b c d q (omega arith) in
+    let r = same_prefix a b c d q (omega arith) in
     (let s = r.0 in cc, r.1)

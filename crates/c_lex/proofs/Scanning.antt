@@ -1,4 +1,4 @@
--- Blanks and words at the front of a text.
+-- Blanks and words at the start of a text.
 use Rattle.std.proofs.Common.{◌≡◌, inl, inr, ℕ, suc, ◌+◌, ◌<◌, ◌≤◌, Bool, true, false, not, ◌&&◌, ◌==◌, if◌then◌else◌, [], ◌∷◌, ◌++◌, length, take, drop, get_or, refl, sym, ap, ◌∙◌, subst, arith}
 use Rattle.std.specs.Char.{digit_value}
 use Rattle.std.specs.Str.Parse.{AllDigits}
@@ -9,8 +9,8 @@ use Rattle.c_lex.specs.Pieces.{goes_on_word, is_chain, is_identifier}
 use Rattle.c_lex.specs.Constants.{HasDigits, HasValue}
 use Rattle.c_lex.specs.Directives.{is_blank, are_blank}
 use Rattle.c_lex.specs.Reading.{chain_len}
-use Rattle.c_lex.specs.DirectiveReading.{skip, word_len, behind_word, is_blank_only}
-use Rattle.c_lex.proofs.Appends.{front_dropped}
+use Rattle.c_lex.specs.DirectiveReading.{skip, word_len, after_word, is_blank_only}
+use Rattle.c_lex.proofs.Appends.{prefix_dropped}
 use Rattle.c_lex.proofs.Runs.{both_left, both_right, word_is_identifier}
 
 -- ---- blanks
@@ -21,7 +21,7 @@ skip_by : (b : ℕ) (z : Bytes) (x : Bool) → is_blank b ≡ x → (a : Bytes) 
 skip_by b z true e h = (b ∷ h.0, ap (λ y. y && are_blank h.0) e ∙ h.1, ap (λ y. b ∷ y) h.2)
 skip_by b z false e h = ([], refl, refl)
 
--- a text is its blanks and what stands behind them
+-- a text is its blanks and what stands after them
 pub skip_parts : (z : Bytes) → (a : Bytes) × (are_blank a ≡ true) × (z ≡ a ++ skip z)
 skip_parts [] = ([], refl, refl)
 skip_parts (b ∷ z) = skip_by b z (is_blank b) refl (skip_parts z)
@@ -78,7 +78,7 @@ chain_past c (b ∷ u) y h e =
     ap (λ x. if x then suc (chain_len goes_on_word b (u ++ y)) else 0) (both_left (is_word b) (is_chain goes_on_word b u) h)
     ∙ ap suc (chain_past b u y (both_right (is_word b) (is_chain goes_on_word b u) h) e)
 
--- some bytes that go on a word behind the first
+-- some bytes that go on a word after the first
 abbrev pub is_run : Bytes → Bool
 is_run [] = false
 is_run (b ∷ w) = is_chain goes_on_word b w
@@ -87,15 +87,15 @@ is_run (b ∷ w) = is_chain goes_on_word b w
 some_byte : (n : ℕ) → (suc n == 0) ≡ false
 some_byte n = grind (arith, nat_tests)
 
--- the word at the front is a run before what goes on no word
+-- the word at the start is a run before what goes on no word
 pub word_past : (w y : Bytes) → is_run w ≡ true → ends_word y ≡ true → word_len (w ++ y) ≡ length w
 word_past [] y h e = absurd (cc)
 word_past (b ∷ w) y h e =
     ap (λ x. if x then 0 else 1 + chain_len goes_on_word b (w ++ y)) (some_byte (length (w ++ y))) ∙ ap (λ n. 1 + n) (chain_past b w y h e) ∙ omega arith
 
--- what stands behind that run
-pub behind_past : (w y : Bytes) → is_run w ≡ true → ends_word y ≡ true → behind_word (w ++ y) ≡ y
-behind_past w y h e = ap (λ n. drop n (w ++ y)) (word_past w y h e) ∙ front_dropped w y
+-- what stands after that run
+pub after_past : (w y : Bytes) → is_run w ≡ true → ends_word y ≡ true → after_word (w ++ y) ≡ y
+after_past w y h e = ap (λ n. drop n (w ++ y)) (word_past w y h e) ∙ prefix_dropped w y
 
 -- an identifier is a run
 pub identifier_is_run : (w : Bytes) → is_identifier w ≡ true → is_run w ≡ true
@@ -144,7 +144,7 @@ word_form (b ∷ y) h =
     let e : word_len (b ∷ y) ≡ suc (chain_len goes_on_word b y) = ap (λ x. if x then 0 else 1 + chain_len goes_on_word b y) (some_byte (length y)) ∙ omega arith in
     subst (λ n. is_letter (get_or (take n (b ∷ y)) 0 0) ≡ true → is_identifier (take n (b ∷ y)) ≡ true) (sym e) (λ l. word_is_identifier b y l) h
 
--- an identifier is kept behind blanks
+-- an identifier is kept after blanks
 pub name_kept : (w y : Bytes) → is_identifier w ≡ true → skip (w ++ y) ≡ w ++ y
 name_kept [] y h = absurd (cc)
 name_kept (b ∷ w) y h = skip_none b (w ++ y) (letter_no_blank b (both_left (is_letter b) (is_chain goes_on_word b w) h))

@@ -1,10 +1,10 @@
--- How many bytes stand at the front of a text, and where its faults are.
+-- How many bytes stand at the start of a text, and where its faults are.
 use Rattle.std.proofs.Common.{◌≡◌, ℕ, zero, suc, ◌+◌, ◌≤◌, Bool, true, false, ◌==◌, if◌then◌else◌, [], ◌∷◌, ◌++◌, length, drop, get_or, codes, Result, Ok, Err, refl, sym, ap, ◌∙◌, subst, arith, length-append}
 use Rattle.std.specs.Char.{is_ascii_digit}
 use Rattle.std.proofs.lemmas.List.{length-drop, length-replicate}
 use Rattle.c_lex.specs.declared.fault.LexFault.{LexFault}
 use Rattle.c_lex.specs.declared.fault.LexFault.TheVariants as fault
-use Rattle.c_lex.specs.declared.front.Front.TheVariants as front
+use Rattle.c_lex.specs.declared.scan.Scanned.TheVariants as scanned
 use Rattle.c_lex.specs.declared.opening.Opening.{Opening}
 use Rattle.c_lex.specs.declared.opening.Opening.TheVariants as opening
 use Rattle.c_lex.specs.declared.opening.LinePart.{LinePart}
@@ -28,7 +28,7 @@ line_comment_begins z h =
   where
     by : (a b c d e f g i j : Bool)
         → (if a then opening.Space else if b then opening.Letter else if c then opening.Digit else if d then opening.Hash else if e then opening.Character else if f then opening.Text
-        else if g then opening.LineComment else if i then opening.BlockComment else if j then opening.Digraph else opening.Mark) ≡ opening.LineComment → g ≡ true
+        else if g then opening.LineComment else if i then opening.BlockComment else if j then opening.Digraph else opening.Other) ≡ opening.LineComment → g ≡ true
     by true b c d e f g i j h = absurd (cc)
     by false true c d e f g i j h = absurd (cc)
     by false false true d e f g i j h = absurd (cc)
@@ -47,7 +47,7 @@ comment_begins z h =
   where
     by : (a b c d e f g i j : Bool)
         → (if a then opening.Space else if b then opening.Letter else if c then opening.Digit else if d then opening.Hash else if e then opening.Character else if f then opening.Text
-        else if g then opening.LineComment else if i then opening.BlockComment else if j then opening.Digraph else opening.Mark) ≡ opening.BlockComment → i ≡ true
+        else if g then opening.LineComment else if i then opening.BlockComment else if j then opening.Digraph else opening.Other) ≡ opening.BlockComment → i ≡ true
     by true b c d e f g i j h = absurd (cc)
     by false true c d e f g i j h = absurd (cc)
     by false false true d e f g i j h = absurd (cc)
@@ -95,9 +95,9 @@ line_within (Line.byte {b} {z} {r} d) q = before_within (b ∷ []) (length z) (s
 
 -- what stands at the place `at` has a byte and no more than n; a fault is in them or at their end
 abbrev pub IsWithin : ℕ → ℕ → Found → Type 0
-IsWithin at n (Ok (front.Pass len)) = (1 ≤ len) × (len ≤ n)
-IsWithin at n (Ok (front.Define name value len)) = (1 ≤ len) × (len ≤ n)
-IsWithin at n (Ok (front.Take kind len)) = (1 ≤ len) × (len ≤ n)
+IsWithin at n (Ok (scanned.Pass len)) = (1 ≤ len) × (len ≤ n)
+IsWithin at n (Ok (scanned.Define name value len)) = (1 ≤ len) × (len ≤ n)
+IsWithin at n (Ok (scanned.Take kind len)) = (1 ≤ len) × (len ≤ n)
 IsWithin at n (Err f) = IsPlaced (at + n) f
 
 -- a fault's place at most an earlier end is at most a later one
@@ -117,9 +117,9 @@ placed_later n k fault.NoMemory l h = tt
 
 -- what stands in a part of a text stands in the text
 within_more : (at n k : ℕ) (r : Found) → n ≤ k → IsWithin at n r → IsWithin at k r
-within_more at n k (Ok (front.Pass len)) l h = (h.0, omega (arith, h.1))
-within_more at n k (Ok (front.Define name value len)) l h = (h.0, omega (arith, h.1))
-within_more at n k (Ok (front.Take kind len)) l h = (h.0, omega (arith, h.1))
+within_more at n k (Ok (scanned.Pass len)) l h = (h.0, omega (arith, h.1))
+within_more at n k (Ok (scanned.Define name value len)) l h = (h.0, omega (arith, h.1))
+within_more at n k (Ok (scanned.Take kind len)) l h = (h.0, omega (arith, h.1))
 within_more at n k (Err f) l h = placed_later (at + n) (at + k) f (omega arith) h
 
 -- the number of a value without parentheses stands in it
@@ -137,13 +137,13 @@ value_place (IsValue.inside {v} a b x y s) =
 -- the name and the number of a definition stand in its line
 define_places : (line : Bytes) (d : Definition) → IsDefine line d → (d.name_at ≤ length line) × (d.number_at ≤ length line) × (1 ≤ length line)
 define_places line d h =
-    let tail = h.value ++ h.behind in
+    let tail = h.value ++ h.after in
     let more = h.second ++ tail in
     let rest = h.first ++ (d.name ++ more) in
-    let right = right8 (codes "#") h.before (codes "define") h.first d.name h.second h.value h.behind in
+    let right = right8 (codes "#") h.before (codes "define") h.first d.name h.second h.value h.after in
     let p = value_place h.is_value in
-    let whole : length line ≡ 1 + (length h.before + (6 + (length h.first + (length d.name + (length h.second + (length h.value + length h.behind)))))) =
-    omega (arith, ap length (h.is_line ∙ right), length-append h.before (codes "define" ++ rest), length-append h.first (d.name ++ more), length-append d.name more, length-append h.second tail, length-append h.value h.behind) in
+    let whole : length line ≡ 1 + (length h.before + (6 + (length h.first + (length d.name + (length h.second + (length h.value + length h.after)))))) =
+    omega (arith, ap length (h.is_line ∙ right), length-append h.before (codes "define" ++ rest), length-append h.first (d.name ++ more), length-append d.name more, length-append h.second tail, length-append h.value h.after) in
     (omega (arith, whole, h.name_at), omega (arith, whole, h.name_at, h.number_at, p), omega (arith, whole))
 
 -- what a definition is stands in its line
@@ -155,7 +155,7 @@ defines_within line d h (Defines.new n e v l) = let p = define_places line d h i
 -- an include has a byte
 include_some : (line : Bytes) → IsInclude line → 1 ≤ length line
 include_some line h =
-    omega (arith, ap length (h.is_line ∙ right6 (codes "#") h.before (codes "include") h.between h.header h.behind))
+    omega (arith, ap length (h.is_line ∙ right6 (codes "#") h.before (codes "include") h.between h.header h.after))
 
 -- what the text of a directive says stands in it
 says_within : {m : Macros} {at : ℕ} {line : Bytes} {r : Found} → Says m at line r → IsWithin at (length line) r
@@ -163,9 +163,9 @@ says_within {line = line} (Says.include h) = (include_some line h, omega arith)
 says_within {line = line} (Says.define d h s) = defines_within line d h s
 says_within (Says.unknown f g) = omega arith
 
--- a front of a text is no longer than the text
-front_within : (z w rest : Bytes) → z ≡ w ++ rest → length w ≤ length z
-front_within z w rest e = omega (arith, ap length e, length-append w rest)
+-- a prefix of a text is no longer than the text
+prefix_within : (z w rest : Bytes) → z ≡ w ++ rest → length w ≤ length z
+prefix_within z w rest e = omega (arith, ap length e, length-append w rest)
 
 -- what a directive is stands in the text
 directive_within : {m : Macros} {at : ℕ} {z : Bytes} {r : Found} → IsDirective m at z r → IsWithin at (length z) r
@@ -180,18 +180,18 @@ stands_within {z = z} (Stands.comment {begun} {n} f) q l = (omega arith, comment
 stands_within (Stands.open_comment f) q l = omega arith
 stands_within (Stands.directive d) q l = directive_within d
 stands_within Stands.late q l = omega arith
-stands_within {z = z} (Stands.word w rest e h k) q l = (piece_not_empty h.piece, front_within z w rest e)
-stands_within {z = z} (Stands.number w rest e h (IsNumber.value n v s)) q l = (piece_not_empty h.piece, front_within z w rest e)
+stands_within {z = z} (Stands.word w rest e h k) q l = (piece_not_empty h.piece, prefix_within z w rest e)
+stands_within {z = z} (Stands.number w rest e h (IsNumber.value n v s)) q l = (piece_not_empty h.piece, prefix_within z w rest e)
 stands_within {z = z} (Stands.number w rest e h (IsNumber.large n v s)) q l = omega arith
 stands_within {z = z} (Stands.number w rest e h (IsNumber.bad n)) q l = omega arith
-stands_within {z = z} (Stands.character w rest e h (IsCharacter.value v c)) q l = (let two = (quoted_begins 39 w h).0 in omega (arith, two), front_within z w rest e)
+stands_within {z = z} (Stands.character w rest e h (IsCharacter.value v c)) q l = (let two = (quoted_begins 39 w h).0 in omega (arith, two), prefix_within z w rest e)
 stands_within {z = z} (Stands.character w rest e h (IsCharacter.bad n)) q l = omega arith
 stands_within (Stands.open_character f) q l = omega arith
-stands_within {z = z} (Stands.text w rest e h (IsText.value v c)) q l = (let two = (quoted_begins 34 w h).0 in omega (arith, two), front_within z w rest e)
+stands_within {z = z} (Stands.text w rest e h (IsText.value v c)) q l = (let two = (quoted_begins 34 w h).0 in omega (arith, two), prefix_within z w rest e)
 stands_within {z = z} (Stands.text w rest e h (IsText.bad n)) q l = omega arith
 stands_within (Stands.open_text f) q l = omega arith
 stands_within Stands.digraph q l = omega arith
-stands_within {z = z} (Stands.mark p rest e h) q l = (piece_not_empty h.piece, front_within z (punct_spelling p) rest e)
+stands_within {z = z} (Stands.punctuator p rest e h) q l = (piece_not_empty h.piece, prefix_within z (punct_spelling p) rest e)
 stands_within (Stands.stray f) q l = omega arith
 
 -- a directive's text is no longer than the text that it stands in

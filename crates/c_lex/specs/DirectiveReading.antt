@@ -9,31 +9,31 @@ use Rattle.c_lex.specs.Places.{begins}
 use Rattle.c_lex.specs.Directives.{is_blank, Definition}
 use Rattle.c_lex.specs.Reading.{chain_len}
 
--- what stands behind the blanks at the front
+-- what stands after the blanks at the start
 abbrev pub skip : Bytes → Bytes
 skip [] = []
 skip (b ∷ z) = if is_blank b then skip z else b ∷ z
 
--- what stands behind these bytes, where z begins with them
+-- what stands after these bytes, where z begins with them
 abbrev pub strip : Bytes → Bytes → Option Bytes
 strip w z = if begins w z then Some (drop (length w) z) else None
 
--- what stands behind a word at the front, where there is no `#` before it
+-- what stands after a word at the start, where there is no `#` before it
 abbrev pub strip_in : Bytes → Option Bytes → Option Bytes
 strip_in w None = None
 strip_in w (Some z) = strip w (skip z)
 
--- what stands behind the name of a directive
+-- what stands after the name of a directive
 abbrev pub body_of : Bytes → Bytes → Option Bytes
 body_of name line = strip_in name (strip (codes "#") line)
 
--- how many bytes the word at the front has; a first byte is taken whatever it is
+-- how many bytes the word at the start has; a first byte is taken whatever it is
 abbrev pub word_len : Bytes → ℕ
 word_len z = if length z == 0 then 0 else 1 + chain_len goes_on_word (get_or z 0 0) (drop 1 z)
 
--- what stands behind the word at the front
-abbrev pub behind_word : Bytes → Bytes
-behind_word z = drop (word_len z) z
+-- what stands after the word at the start
+abbrev pub after_word : Bytes → Bytes
+after_word z = drop (word_len z) z
 
 -- whether there are blanks alone
 abbrev pub is_blank_only : Bytes → Bool
@@ -46,7 +46,7 @@ is_header z =
     else if begins (codes "<stdlib.h>") z then is_blank_only (drop 10 z)
     else false
 
--- whether the line includes a header, by what stands behind `include`
+-- whether the line includes a header, by what stands after `include`
 abbrev pub is_include_by : Option Bytes → Bool
 is_include_by None = false
 is_include_by (Some z) = is_header (skip z)
@@ -68,13 +68,14 @@ abbrev pub ends_value : Bool → Bytes → Bool
 ends_value true z = begins (codes ")") (skip z) && is_blank_only (drop 1 (skip z))
 ends_value false z = is_blank_only z
 
--- the parts of a line, by what stands behind `define`
+-- the parts of a line, by what stands after `define`
 abbrev pub parts_by : ℕ → Bytes → Option DefineParts
 parts_by len body =
     let name = skip body in
-    let value = skip (behind_word name) in
+    let value = skip (after_word name) in
     let number = number_of (inside value) in
-    if nat_lt (length name) (length body) && nat_lt (length value) (length (behind_word name)) && ends_value (begins (codes "(") value) (behind_word number)
+    if nat_lt (length name) (length body) && nat_lt (length value) (length (after_word name))
+    && ends_value (begins (codes "(") value) (after_word number)
     then Some (record {
       name_at = len - length name;
       name_len = word_len name;

@@ -1,5 +1,6 @@
 -- The directives of the head of a text: `#include` and `#define` (C11 6.10.2, 6.10.3).
 use Rattle.std.specs.Prelude.{◌≡◌, ◌≢◌, ◌⊎◌, ℕ, ◌+◌, ◌≤◌, Bool, true, false, ◌||◌, ◌&&◌, ◌==◌, nat_le, [], ◌∷◌, ◌++◌, length, drop, replicate, codes, Result, Ok, Err}
+use Prim.Native.Char.{code}
 use Rattle.c_lex.specs.declared.token.Keyword.{Keyword}
 use Rattle.c_lex.specs.declared.opening.LinePart.{LinePart}
 use Rattle.c_lex.specs.declared.opening.LinePart.TheVariants as part
@@ -19,19 +20,22 @@ before_line w (Err place) = Err (length w + place)
 
 -- so many spaces
 abbrev pub spaces : ℕ → Bytes
-spaces n = replicate n 32
+spaces n = replicate n (code " ")
 
--- the text of a directive from z on, by what z begins with: to before the first line feed outside a comment, or to the
--- end, with spaces for the bytes of comments; or the place of the comment in it that isn't closed
+-- the text of a directive from z on, by what z begins with: to before the first line feed outside a
+-- comment, or to the end, with spaces for the bytes of comments; or the place of the comment in it
+-- that isn't closed
 pub data Line : LinePart → Bytes → Result Bytes ℕ → Type 0 where
   ends : {z : Bytes} → Line part.End z (Ok [])
   last : {z : Bytes} {n : ℕ} → IsFirstAt is_line_end z n → Line part.LineComment z (Ok (spaces n))
-  comment : {z : Bytes} {n : ℕ} {r : Result Bytes ℕ} → IsFirstAt is_comment_end (drop 2 z) n → Line (line_part (drop (n + 4) z)) (drop (n + 4) z) r
+  comment : {z : Bytes} {n : ℕ} {r : Result Bytes ℕ} → IsFirstAt is_comment_end (drop 2 z) n
+      → Line (line_part (drop (n + 4) z)) (drop (n + 4) z) r
       → Line part.BlockComment z (before_line (spaces (n + 4)) r)
   unclosed : {z : Bytes} → IsNowhere is_comment_end (drop 2 z) → Line part.BlockComment z (Err 0)
-  byte : {b : ℕ} {z : Bytes} {r : Result Bytes ℕ} → Line (line_part z) z r → Line part.Byte (b ∷ z) (before_line (b ∷ []) r)
+  byte : {b : ℕ} {z : Bytes} {r : Result Bytes ℕ} → Line (line_part z) z r
+      → Line part.Byte (b ∷ z) (before_line (b ∷ []) r)
 
--- the directive at the front of z has this text, or an open comment at that place
+-- the directive at the start of z has this text, or an open comment at that place
 abbrev pub HasLine : Bytes → Result Bytes ℕ → Type 0
 HasLine z r = Line (line_part z) z r
 
@@ -39,7 +43,7 @@ HasLine z r = Line (line_part z) z r
 
 -- a space, tab, vertical tab, form feed or carriage return
 abbrev pub is_blank : ℕ → Bool
-is_blank b = b == 32 || b == 9 || (nat_le 11 b && nat_le b 13)
+is_blank b = b == code " " || b == code "\t" || (nat_le 11 b && nat_le b (code "\r"))
 
 -- each byte is a blank
 abbrev pub are_blank : Bytes → Bool
@@ -51,25 +55,30 @@ pub record IsInclude (line : Bytes) : Type 0 where
   pub before : Bytes
   pub between : Bytes
   pub header : Bytes
-  pub behind : Bytes
-  pub is_line : line ≡ codes "#" ++ before ++ codes "include" ++ between ++ header ++ behind
+  pub after : Bytes
+  pub is_line : line ≡ codes "#" ++ before ++ codes "include" ++ between ++ header ++ after
   pub is_header : (header ≡ codes "<stdio.h>") ⊎ (header ≡ codes "<stdlib.h>")
   pub blank_before : are_blank before ≡ true
   pub blank_between : are_blank between ≡ true
-  pub blank_behind : are_blank behind ≡ true
+  pub blank_after : are_blank after ≡ true
 
--- v is the number, or `-` and the number with optional blanks between; the number begins at `place` in v
+-- v is the number, or `-` and the number with optional blanks between; the number begins at `place`
+-- in v
 pub data IsSigned (number : Bytes) : Bytes → Bool → ℕ → Type 0 where
   plain : IsSigned number number false 0
-  minus : (a : Bytes) → are_blank a ≡ true → IsSigned number (codes "-" ++ a ++ number) true (1 + length a)
+  minus : (a : Bytes) → are_blank a ≡ true
+      → IsSigned number (codes "-" ++ a ++ number) true (1 + length a)
 
 -- v is a number with or without `-`, or one in parentheses with optional blanks inside
 pub data IsValue (number : Bytes) : Bytes → Bool → ℕ → Type 0 where
-  bare : {v : Bytes} {negative : Bool} {place : ℕ} → IsSigned number v negative place → IsValue number v negative place
-  inside : {v : Bytes} {negative : Bool} {place : ℕ} (a b : Bytes) → are_blank a ≡ true → are_blank b ≡ true → IsSigned number v negative place
+  bare : {v : Bytes} {negative : Bool} {place : ℕ} → IsSigned number v negative place
+      → IsValue number v negative place
+  inside : {v : Bytes} {negative : Bool} {place : ℕ} (a b : Bytes) → are_blank a ≡ true
+      → are_blank b ≡ true → IsSigned number v negative place
       → IsValue number (codes "(" ++ a ++ v ++ b ++ codes ")") negative (1 + length a + place)
 
--- what a `#define` says: the macro's name, whether its value has a `-`, the number in its value, and the places of name and number in the line
+-- what a `#define` says: the macro's name, whether its value has a `-`, the number in its value,
+-- and the places of name and number in the line
 pub record Definition : Type 0 where
   pub name : Bytes
   pub name_at : ℕ
@@ -84,8 +93,9 @@ pub record IsDefine (line : Bytes) (d : Definition) : Type 0 where
   pub second : Bytes
   pub value : Bytes
   pub value_place : ℕ
-  pub behind : Bytes
-  pub is_line : line ≡ codes "#" ++ before ++ codes "define" ++ first ++ d.name ++ second ++ value ++ behind
+  pub after : Bytes
+  pub is_line : line
+      ≡ codes "#" ++ before ++ codes "define" ++ first ++ d.name ++ second ++ value ++ after
   pub name_at : d.name_at ≡ 1 + length before + 6 + length first
   pub number_at : d.number_at ≡ d.name_at + length d.name + length second + value_place
   pub is_name : is_identifier d.name ≡ true
@@ -95,6 +105,6 @@ pub record IsDefine (line : Bytes) (d : Definition) : Type 0 where
   pub blank_before : are_blank before ≡ true
   pub blank_first : are_blank first ≡ true
   pub blank_second : are_blank second ≡ true
-  pub blank_behind : are_blank behind ≡ true
+  pub blank_after : are_blank after ≡ true
   pub some_first : 1 ≤ length first
   pub some_second : 1 ≤ length second

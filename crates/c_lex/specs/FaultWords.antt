@@ -3,7 +3,7 @@ use Rattle.std.specs.Prelude.{ℕ, List, Option, Some, None, codes}
 use Rattle.c_lex.specs.declared.fault.LexFault.{LexFault}
 use Rattle.c_lex.specs.declared.fault.LexFault.TheVariants as fault
 
--- its place in the text; a lack of memory has none
+-- its place in the text; out of memory has none
 abbrev pub place_of : LexFault → Option ℕ
 place_of (fault.StrayByte place) = Some place
 place_of (fault.OpenComment place) = Some place

@@ -1,7 +1,10 @@
 -- Tokens with the text that each covers.
-use Rattle.std.specs.Prelude.{◌≡◌, ℕ, ◌+◌, ◌<◌, ◌≤◌, List, [], ◌∷◌}
+use Rattle.std.specs.Prelude.{◌≡◌, ℕ, ◌+◌, ◌<◌, ◌≤◌, Bool, true, false, List, [], ◌∷◌}
 use Rattle.c_tree.specs.declared.place.Span.{Span}
+use Rattle.c_lex.specs.declared.token.Punct.{Punct as Mark}
+use Rattle.c_lex.specs.declared.token.Punct.TheVariants.{Question}
 use Rattle.c_lex.specs.declared.token.TokenKind.{TokenKind}
+use Rattle.c_lex.specs.declared.token.TokenKind.TheVariants.{Punct}
 
 -- a token and the text that it covers
 abbrev pub Lexeme : Type 0
@@ -33,3 +36,13 @@ pub record Covers (own : List Lexeme) (s : Span) : Type 0 where
   pub consists : own ≡ first ∷ others
   pub begins : first.1.from ≡ s.from
   pub ends : end_of first others ≡ s.to
+
+-- the punctuator is no `?`
+abbrev pub is_no_question : Mark → Bool
+is_no_question Question = false
+is_no_question _ = true
+
+-- the token is no `?`
+abbrev pub is_other : TokenKind → Bool
+is_other (Punct p) = is_no_question p
+is_other _ = true

@@ -1,5 +1,6 @@
 -- The pieces that a text is cut into: its preprocessing tokens (C11 6.4).
 use Rattle.std.specs.Prelude.{◌≡◌, ℕ, Bool, true, false, ◌||◌, ◌&&◌, ◌==◌, ◌≤◌, [], ◌∷◌, ◌++◌, length}
+use Prim.Native.Char.{code}
 use Rattle.std.specs.Char.{is_ascii_digit}
 use Rattle.c_lex.specs.declared.token.Punct.{Punct}
 use Rattle.c_lex.specs.Bytes.{Bytes, is_letter, is_word, is_sign, is_exponent}
@@ -11,7 +12,7 @@ goes_on_word before b = is_word b
 
 -- in a number, a letter, `_`, digit or `.` follows whatever byte, and a sign follows e, E, p or P
 abbrev pub goes_on_number : ℕ → ℕ → Bool
-goes_on_number before b = is_word b || b == 46 || (is_sign b && is_exponent before)
+goes_on_number before b = is_word b || b == code "." || (is_sign b && is_exponent before)
 
 -- after the byte `before`, each byte may follow the one before it
 abbrev pub is_chain : (ℕ → ℕ → Bool) → ℕ → Bytes → Bool
@@ -34,7 +35,7 @@ pub data IsPiece : Bytes → Type 0 where
   number : {w : Bytes} → is_number w ≡ true → IsPiece w
   punctuator : {w : Bytes} (p : Punct) → w ≡ punct_spelling p → IsPiece w
 
--- w is the longest piece that stands at the front of w ++ rest (C11 6.4p4)
+-- w is the longest piece that stands at the start of w ++ rest (C11 6.4p4)
 pub record IsLongest (w rest : Bytes) : Type 0 where
   pub piece : IsPiece w
   pub longest : (v z : Bytes) → w ++ rest ≡ v ++ z → IsPiece v → length v ≤ length w

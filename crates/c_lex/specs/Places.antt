@@ -1,7 +1,8 @@
 -- Places in a text: the first where something stands, and what can stand there.
 use Rattle.std.specs.Prelude.{◌≡◌, ℕ, ◌<◌, ◌≤◌, Bool, true, false, ◌||◌, ◌&&◌, ◌==◌, eqb, [], ◌∷◌, length, drop, codes}
+use Prim.Native.Char.{code}
 use Rattle.std.specs.List.{starts_with}
-use Rattle.c_lex.specs.Bytes.{Bytes}
+use Rattle.c_lex.specs.Bytes.{Bytes, is_one_of}
 
 -- the first place of z where what stands there passes the test
 pub record IsFirstAt (test : Bytes → Bool) (z : Bytes) (place : ℕ) : Type 0 where
@@ -20,7 +21,7 @@ begins w z = starts_with eqb z w
 -- a line feed or the end
 abbrev pub is_line_end : Bytes → Bool
 is_line_end [] = true
-is_line_end (b ∷ z) = b == 10
+is_line_end (b ∷ z) = b == code "\n"
 
 -- what closes a `/*` comment
 abbrev pub is_comment_end : Bytes → Bool
@@ -28,15 +29,15 @@ is_comment_end z = begins (codes "*/") z
 
 -- a backslash at the end of its line, which would splice it with the next (C11 5.1.1.2)
 abbrev pub is_splice : Bytes → Bool
-is_splice z = begins (92 ∷ 10 ∷ []) z || begins (92 ∷ 13 ∷ 10 ∷ []) z
+is_splice z = begins (codes "\\\n") z || begins (codes "\\\r\n") z
 
--- whether the byte ends a trigraph: one of = ( / ) ' < ! > - (C11 5.2.1.1)
+-- whether the byte ends a trigraph (C11 5.2.1.1)
 abbrev pub ends_trigraph : ℕ → Bool
-ends_trigraph b = b == 61 || b == 40 || b == 47 || b == 41 || b == 39 || b == 60 || b == 33 || b == 62 || b == 45
+ends_trigraph b = is_one_of (codes "=(/)'<!>-") b
 
 -- `??` and a byte that ends a trigraph
 abbrev pub is_trigraph : Bytes → Bool
-is_trigraph (b ∷ c ∷ d ∷ z) = b == 63 && c == 63 && ends_trigraph d
+is_trigraph (b ∷ c ∷ d ∷ z) = b == code "?" && c == code "?" && ends_trigraph d
 is_trigraph _ = false
 
 -- what is refused wherever it stands
@@ -45,4 +46,6 @@ is_refused z = is_splice z || is_trigraph z
 
 -- `<:`, `:>`, `<%`, `%>` or `%:` (C11 6.4.6)
 abbrev pub is_digraph : Bytes → Bool
-is_digraph z = begins (codes "<:") z || begins (codes ":>") z || begins (codes "<%") z || begins (codes "%>") z || begins (codes "%:") z
+is_digraph z =
+    begins (codes "<:") z || begins (codes ":>") z || begins (codes "<%") z || begins (codes "%>") z
+    || begins (codes "%:") z

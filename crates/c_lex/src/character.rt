@@ -8,7 +8,7 @@ use crate::constant::small_digits;
 
 /// The value of the first character of some bytes, and how many of them write it.
 #[derive(Clone, Copy)]
-pub struct FrontCharacter {
+pub struct FirstCharacter {
     /// The value.
     pub value: u8,
     /// How many bytes.
@@ -57,9 +57,10 @@ fn digit_count(base: u32, most: usize, text: &[u8]) -> usize
     count
 }
 
-// The character that up to `most` digits at the front of the text write, behind the `before` bytes that begin its escape.
+// The character that up to `most` digits at the start of the text write, after the `before` bytes
+// that begin its escape.
 #[tactic(auto, unfolding(crate::specs::LiteralReading::numeric_escape))]
-fn numeric_escape(base: u32, most: usize, before: usize, text: &[u8]) -> Option<FrontCharacter>
+fn numeric_escape(base: u32, most: usize, before: usize, text: &[u8]) -> Option<FirstCharacter>
     requires two { 2 ≤ base }
     requires sixteen { base ≤ 16 }
     requires before { before ≤ 2 }
@@ -67,7 +68,7 @@ fn numeric_escape(base: u32, most: usize, before: usize, text: &[u8]) -> Option<
 {
     let count = digit_count(base, most, text);
     match small_digits(base, &text[..count]) {
-        Some(value) if value <= 255 => Some(FrontCharacter {
+        Some(value) if value <= 255 => Some(FirstCharacter {
             value: value as u8,
             len: before + count,
         }),
@@ -75,15 +76,15 @@ fn numeric_escape(base: u32, most: usize, before: usize, text: &[u8]) -> Option<
     }
 }
 
-// The escape that the bytes behind a backslash write.
+// The escape that the bytes after a backslash write.
 #[tactic(auto, unfolding(crate::specs::LiteralReading::escape))]
-fn escape(text: &[u8]) -> Option<FrontCharacter>
+fn escape(text: &[u8]) -> Option<FirstCharacter>
     ensures { result ≡ reading.escape text.now }
 {
     match text {
         [] => None,
         [byte, rest @ ..] => match simple_escape(*byte) {
-            Some(value) => Some(FrontCharacter { value, len: 2 }),
+            Some(value) => Some(FirstCharacter { value, len: 2 }),
             None => {
                 if *byte == b'x' {
                     numeric_escape(16, rest.len(), 2, rest)
@@ -95,10 +96,10 @@ fn escape(text: &[u8]) -> Option<FrontCharacter>
     }
 }
 
-/// The first of the characters that stand between such quotes (C11 6.4.4.4, 6.4.5), or `None` exactly where the text
-/// begins with none.
+/// The first of the characters that stand between such quotes (C11 6.4.4.4, 6.4.5), or `None`
+/// exactly where the text begins with none.
 #[tactic(auto, unfolding(crate::specs::LiteralReading::first_character))]
-pub fn first_character(quote: u8, text: &[u8]) -> Option<FrontCharacter>
+pub fn first_character(quote: u8, text: &[u8]) -> Option<FirstCharacter>
     ensures { result ≡ reading.first_character quote text.now }
 {
     match text {
@@ -106,7 +107,7 @@ pub fn first_character(quote: u8, text: &[u8]) -> Option<FrontCharacter>
         [b'\\', rest @ ..] => escape(rest),
         [byte, ..] => {
             if is_bare(quote, *byte) {
-                Some(FrontCharacter {
+                Some(FirstCharacter {
                     value: *byte,
                     len: 1,
                 })
@@ -136,12 +137,14 @@ fn char_value(value: u8) -> i64
     }
 }
 
-/// The value of a character constant (C11 6.4.4.4), or `None` exactly where what stands between its quotes isn't one
-/// character. It takes no memory.
+/// The value of a character constant (C11 6.4.4.4), or `None` exactly where what stands between its
+/// quotes isn't one character.
 pub fn character(word: &[u8]) -> Option<i64>
-    requires { spec.is_quoted 39 word.now ≡ true }
-    ensures { MatchOption result ((v : ℕ) → spec.Characters 39 (spec.between_quotes word.now) (v ∷ []) → ⊥)
-        (λ c. (v : ℕ) × spec.Characters 39 (spec.between_quotes word.now) (v ∷ []) × (c ≡ spec.char_value v)) }
+    requires { spec.is_quoted spec.single_quote word.now ≡ true }
+    ensures { MatchOption result
+        ((v : ℕ) → spec.Characters spec.single_quote (spec.between_quotes word.now) (v ∷ []) → ⊥)
+        (λ c. (v : ℕ) × spec.Characters spec.single_quote (spec.between_quotes word.now) (v ∷ [])
+        × (c ≡ spec.char_value v)) }
 {
     let body = between_quotes(word);
     match first_character(b'\'', body) {

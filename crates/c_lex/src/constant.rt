@@ -1,12 +1,12 @@
 //! The values of integer constants.
 
-ghost use Rattle.std.specs.Prelude.{◌≡◌, ◌≤◌, ◌<◌, ◌+◌, ◌*◌, ◌^◌, ℕ, true, length, MatchOption};
-ghost use Rattle.c_lex.specs.Constants.{HasDigits};
+ghost use Rattle.std.specs.Prelude.{◌≡◌, ◌≤◌, ◌<◌, ◌+◌, ◌*◌, ℕ, true, length, MatchOption};
+ghost use Rattle.c_lex.specs.Constants.{int_limit, HasDigits};
 ghost use Rattle.c_lex.specs.LiteralReading as spec;
 ghost use Rattle.c_lex.specs.LiteralReading.{HasSmallDigits, AnswersDigits, Answers};
 
-/// One more than the largest value that an `int` of 32 bits holds.
-const LIMIT: u64 = 2_147_483_648;
+// One more than the largest value that an `int` of 32 bits holds.
+const INT_LIMIT: u64 = 2_147_483_648;
 
 /// What an integer constant without a suffix stands for.
 #[derive(Clone, Copy, Debug, PartialEq, Eq)]
@@ -22,21 +22,22 @@ pub enum Constant {
 // The value after one more digit, or the limit where that is smaller.
 fn with_digit(base: u32, value: u64, digit: u32) -> u64
     requires base { base ≤ 16 }
-    requires value { value ≤ 2 ^ 31 }
+    requires value { value ≤ int_limit }
     requires digit { digit < base }
-    ensures small { value * base + digit < 2 ^ 31 → result ≡ value * base + digit }
-    ensures large { 2 ^ 31 ≤ value * base + digit → result ≡ 2 ^ 31 }
+    ensures small { value * base + digit < int_limit → result ≡ value * base + digit }
+    ensures large { int_limit ≤ value * base + digit → result ≡ int_limit }
 {
     let more = value * u64::from(base) + u64::from(digit);
-    if more < LIMIT { more } else { LIMIT }
+    if more < INT_LIMIT { more } else { INT_LIMIT }
 }
 
-/// The value of a word that is one digit of the base or more, or 2,147,483,648 where that is smaller. It takes no
-/// memory.
+/// The value of a word that is one digit of the base or more, or 2,147,483,648 where that is
+/// smaller.
 pub fn small_digits(base: u32, word: &[u8]) -> Option<u64>
     requires two { 2 ≤ base }
     requires most { base ≤ 16 }
-    ensures { MatchOption result ((n : ℕ) → HasDigits base word.now n → ⊥) (HasSmallDigits base word.now) }
+    ensures { MatchOption result ((n : ℕ) → HasDigits base word.now n → ⊥)
+        (HasSmallDigits base word.now) }
 {
     if word.is_empty() {
         return None;
@@ -83,7 +84,7 @@ fn of_digits(base: u32, word: &[u8]) -> Constant
     match small_digits(base, word) {
         None => Constant::Bad,
         Some(value) => {
-            if value < LIMIT {
+            if value < INT_LIMIT {
                 Constant::Value(value as i64)
             } else {
                 Constant::TooLarge
@@ -92,8 +93,9 @@ fn of_digits(base: u32, word: &[u8]) -> Constant
     }
 }
 
-/// What a word stands for as an integer constant without a suffix (C11 6.4.4.1): its value where an `int` of 32 bits
-/// holds that, `TooLarge` where it doesn't, and `Bad` exactly where the word has no such form. It takes no memory.
+/// What a word stands for as an integer constant without a suffix (C11 6.4.4.1): its value where an
+/// `int` of 32 bits holds that, `TooLarge` where it doesn't, and `Bad` exactly where the word has
+/// no such form.
 pub fn constant_of(word: &[u8]) -> Constant
     ensures { Answers word.now result }
 {

@@ -2,19 +2,20 @@
 
 ghost use Rattle.std.specs.Prelude.{◌≡◌, ◌≢◌, ℕ, pos, ◌+◌, ◌<◌, ◌≤◌, ◌^◌, false, length, Ok, Some, MatchBool};
 ghost use Rattle.c_lex.specs.declared.constant.Constant.TheVariants as constant_is;
-ghost use Rattle.c_lex.specs.declared.front.Front.TheVariants as front;
+ghost use Rattle.c_lex.specs.declared.scan.Scanned.TheVariants as scanned;
 ghost use Rattle.c_lex.specs.DirectiveReading as reading;
 ghost use Rattle.c_lex.specs.LiteralReading.{Answers};
-ghost use Rattle.c_lex.specs.Reading.{Knows, Finds};
+ghost use Rattle.c_lex.specs.Constants.{int_limit};
+ghost use Rattle.c_lex.specs.Reading.{Finds, FindsKnowing};
 ghost use Rattle.c_lex.specs.Tokens as spec;
 
 use crate::constant::{Constant, constant_of};
 use crate::fault::LexFault;
 use crate::form::{DefineParts, define_parts, is_include, part};
-use crate::front::Front;
 use crate::line::directive_line;
 use crate::macros::MacroMap;
 use crate::piece::is_letter;
+use crate::scan::Scanned;
 use crate::spelling::keyword;
 use c_tree::Text;
 use std::alloc::Global;
@@ -28,18 +29,18 @@ fn begins_name(word: &[u8]) -> bool
 
 // The number with its sign.
 fn signed(negative: bool, value: i64) -> i64
-    requires { (n : ℕ) × (value ≡ pos n) × (n < 2 ^ 31) }
-    ensures { (n : ℕ) → value ≡ pos n → n < 2 ^ 31 → result ≡ spec.signed negative n }
+    requires { (n : ℕ) × (value ≡ pos n) × (n < int_limit) }
+    ensures { (n : ℕ) → value ≡ pos n → n < int_limit → result ≡ spec.signed negative n }
 {
     if negative { -value } else { value }
 }
 
 // A new macro.
-fn new_macro(alloc: Global, name: &[u8], value: i64, len: usize) -> Result<Front, LexFault>
-    ensures { Finds (λ r. r ≡ Ok (front.Define name.now value len)) result }
+fn new_macro(alloc: Global, name: &[u8], value: i64, len: usize) -> Result<Scanned, LexFault>
+    ensures { Finds (λ r. r ≡ Ok (scanned.Define name.now value len)) result }
 {
     let word = name.to_vec(alloc)?;
-    Ok(Front::Define {
+    Ok(Scanned::Define {
         name: Text::new(word),
         value,
         len,
@@ -54,13 +55,14 @@ fn define(
     line: &[u8],
     parts: DefineParts,
     number: Constant,
-) -> Result<Front, LexFault>
+) -> Result<Scanned, LexFault>
     requires places { at + length line.now < 2 ^ 32 }
     requires name { parts.name_at + parts.name_len ≤ length line.now }
     requires number_at { parts.number_at ≤ length line.now }
     requires is_number { Answers (reading.definition_of line.now parts).number number }
     requires good { number ≢ constant_is.Bad }
-    ensures { Finds (λ r. (m : spec.Macros) → Knows macros.now m → spec.Defines m at (length line.now) (reading.definition_of line.now parts) r) result }
+    ensures { FindsKnowing macros.now
+        (λ m. spec.Defines m at (length line.now) (reading.definition_of line.now parts)) result }
 {
     let name = part(line, parts.name_at, parts.name_len);
     match macros.value(name) {
@@ -86,7 +88,7 @@ fn named(
     line: &[u8],
     parts: DefineParts,
     number: Constant,
-) -> Result<Front, LexFault>
+) -> Result<Scanned, LexFault>
     requires places { at + length line.now < 2 ^ 32 }
     requires no_include { reading.is_include line.now ≡ false }
     requires is_parts { reading.parts_of line.now ≡ Some parts }
@@ -94,7 +96,7 @@ fn named(
     requires number_at { parts.number_at ≤ length line.now }
     requires is_number { Answers (reading.definition_of line.now parts).number number }
     requires good { number ≢ constant_is.Bad }
-    ensures { Finds (λ r. (m : spec.Macros) → Knows macros.now m → spec.Says m at line.now r) result }
+    ensures { FindsKnowing macros.now (λ m. spec.Says m at line.now) result }
 {
     if begins_name(part(line, parts.name_at, parts.name_len)) {
         define(alloc, macros, at, line, parts, number)
@@ -110,13 +112,13 @@ fn defines(
     at: usize,
     line: &[u8],
     parts: DefineParts,
-) -> Result<Front, LexFault>
+) -> Result<Scanned, LexFault>
     requires places { at + length line.now < 2 ^ 32 }
     requires no_include { reading.is_include line.now ≡ false }
     requires is_parts { reading.parts_of line.now ≡ Some parts }
     requires name { parts.name_at + parts.name_len ≤ length line.now }
     requires number { parts.number_at + parts.number_len ≤ length line.now }
-    ensures { Finds (λ r. (m : spec.Macros) → Knows macros.now m → spec.Says m at line.now r) result }
+    ensures { FindsKnowing macros.now (λ m. spec.Says m at line.now) result }
 {
     match constant_of(part(line, parts.number_at, parts.number_len)) {
         Constant::Bad => Err(LexFault::DirectiveUnknown(at as u32)),
@@ -125,12 +127,12 @@ fn defines(
 }
 
 // What the text of a directive says.
-fn says(alloc: Global, macros: &MacroMap, at: usize, line: &[u8]) -> Result<Front, LexFault>
+fn says(alloc: Global, macros: &MacroMap, at: usize, line: &[u8]) -> Result<Scanned, LexFault>
     requires places { at + length line.now < 2 ^ 32 }
-    ensures { Finds (λ r. (m : spec.Macros) → Knows macros.now m → spec.Says m at line.now r) result }
+    ensures { FindsKnowing macros.now (λ m. spec.Says m at line.now) result }
 {
     if is_include(line) {
-        return Ok(Front::Pass(line.len()));
+        return Ok(Scanned::Pass(line.len()));
     }
     match define_parts(line) {
         Some(parts) => defines(alloc, macros, at, line, parts),
@@ -138,7 +140,7 @@ fn says(alloc: Global, macros: &MacroMap, at: usize, line: &[u8]) -> Result<Fron
     }
 }
 
-/// What the directive at the front of the text is, which stands at the place `at` of the source.
+/// What the directive at the start of the text is, which stands at the place `at` of the source.
 ///
 /// # Errors
 /// The fault of the directive, if it has one, or `NoMemory`.
@@ -147,9 +149,9 @@ pub fn read_directive(
     macros: &MacroMap,
     at: usize,
     text: &[u8],
-) -> Result<Front, LexFault>
+) -> Result<Scanned, LexFault>
     requires { at + length text.now < 2 ^ 32 }
-    ensures { Finds (λ r. (m : spec.Macros) → Knows macros.now m → spec.IsDirective m at text.now r) result }
+    ensures { FindsKnowing macros.now (λ m. spec.IsDirective m at text.now) result }
 {
     let line = directive_line(alloc, at, text)?;
     says(alloc, macros, at, &line)

@@ -17,14 +17,15 @@ pub enum LexFault {
     OpenComment(u32),
     /// An opening quote without a closing one on its line (C11 6.4.4.4, 6.4.5).
     OpenLiteral(u32),
-    /// A number that is no integer constant without a suffix, a character constant that isn't one character, or a
-    /// string literal with a faulty escape sequence.
+    /// A number that is no integer constant without a suffix, a character constant that isn't one
+    /// character, or a string literal with a faulty escape sequence.
     BadConstant(u32),
     /// An integer constant above 2,147,483,647.
     ConstantTooLarge(u32),
     /// A `#` after the first token.
     DirectiveLate(u32),
-    /// A directive of another form than `#include` of <stdio.h> or <stdlib.h> and `#define` of a number.
+    /// A directive of another form than `#include` of <stdio.h> or <stdlib.h> and `#define` of a
+    /// number.
     DirectiveUnknown(u32),
     /// A `#define` of a macro that is defined already.
     MacroTwice(u32),

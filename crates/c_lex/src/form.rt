@@ -27,7 +27,7 @@ fn is_blank(byte: u8) -> bool
     matches!(byte, b' ' | b'\t' | 11..=13)
 }
 
-// What stands behind the blanks at the front.
+// What stands after the blanks at the start.
 fn skip(text: &[u8]) -> &[u8]
     ensures value { result.now ≡ spec.skip text.now }
     ensures within { length result.now ≤ length text.now }
@@ -45,9 +45,10 @@ fn is_blank_only(text: &[u8]) -> bool
     skip(text).is_empty()
 }
 
-// What stands behind the name of a directive.
+// What stands after the name of a directive.
 fn body<'a>(name: &[u8], line: &'a [u8]) -> Option<&'a [u8]>
-    ensures value { MatchOption result (spec.body_of name.now line.now ≡ None) (λ rest. spec.body_of name.now line.now ≡ Some rest.now) }
+    ensures value { MatchOption result (spec.body_of name.now line.now ≡ None)
+        (λ rest. spec.body_of name.now line.now ≡ Some rest.now) }
     ensures within { IfSome result (λ rest. length rest.now ≤ length line.now) }
 {
     if !line.starts_with(b"#") {
@@ -61,7 +62,7 @@ fn body<'a>(name: &[u8], line: &'a [u8]) -> Option<&'a [u8]>
     }
 }
 
-// How many bytes the word at the front has; a first byte is taken whatever it is.
+// How many bytes the word at the start has; a first byte is taken whatever it is.
 fn word_len(text: &[u8]) -> usize
     ensures value { result ≡ spec.word_len text.now }
     ensures within { result ≤ length text.now }
@@ -73,8 +74,8 @@ fn word_len(text: &[u8]) -> usize
     }
 }
 
-fn behind_word(text: &[u8]) -> &[u8]
-    ensures value { result.now ≡ spec.behind_word text.now }
+fn after_word(text: &[u8]) -> &[u8]
+    ensures value { result.now ≡ spec.after_word text.now }
     ensures within { length result.now ≤ length text.now }
 {
     &text[word_len(text)..]
@@ -138,20 +139,21 @@ fn ends_value(parenthesis: bool, text: &[u8]) -> bool
     }
 }
 
-// The parts of a line of so many bytes, of which `body` stands behind `define`.
+// The parts of a line of so many bytes, of which `body` stands after `define`.
 fn parts_of(len: usize, body: &[u8]) -> Option<DefineParts>
     requires { length body.now ≤ len }
     ensures value { result ≡ spec.parts_by len body.now }
-    ensures within { IfSome result (λ p. (p.name_at + p.name_len ≤ len) × (p.number_at + p.number_len ≤ len)) }
+    ensures within { IfSome result (λ p.
+        (p.name_at + p.name_len ≤ len) × (p.number_at + p.number_len ≤ len)) }
 {
     let name = skip(body);
-    let rest = behind_word(name);
+    let rest = after_word(name);
     let value = skip(rest);
     let inner = inside(value);
     let number = number(inner);
     if name.len() < body.len()
         && value.len() < rest.len()
-        && ends_value(value.starts_with(b"("), behind_word(number))
+        && ends_value(value.starts_with(b"("), after_word(number))
     {
         Some(DefineParts {
             name_at: len - name.len(),
@@ -168,7 +170,8 @@ fn parts_of(len: usize, body: &[u8]) -> Option<DefineParts>
 /// The parts of a line, if it has the form of a `#define`, but maybe for its name and number.
 pub fn define_parts(line: &[u8]) -> Option<DefineParts>
     ensures value { result ≡ spec.parts_of line.now }
-    ensures within { IfSome result (λ p. (p.name_at + p.name_len ≤ length line.now) × (p.number_at + p.number_len ≤ length line.now)) }
+    ensures within { IfSome result (λ p. (p.name_at + p.name_len ≤ length line.now)
+        × (p.number_at + p.number_len ≤ length line.now)) }
 {
     match body(b"define", line) {
         Some(rest) => parts_of(line.len(), rest),

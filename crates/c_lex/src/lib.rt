@@ -1,4 +1,5 @@
-//! The tokens of a source (C11 6.4).
+//! The tokens of a source (C11 6.4). A call takes memory only where it can answer `NoMemory` or
+//! `AllocError`.
 #![tactic(auto)]
 
 mod character;
@@ -6,15 +7,15 @@ mod constant;
 mod directive;
 mod fault;
 mod form;
-mod front;
 mod line;
 mod literal;
 mod macros;
-mod mark;
 mod opening;
 mod piece;
 mod reading;
+mod scan;
 mod spelling;
+mod target;
 mod token;
 
 pub use fault::LexFault;

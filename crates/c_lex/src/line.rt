@@ -5,11 +5,11 @@ ghost use Rattle.c_lex.specs.Directives.{HasLine, spaces};
 ghost use Rattle.c_lex.specs.declared.fault.LexFault.TheVariants as fault;
 
 use crate::fault::LexFault;
-use crate::mark::{comment_end, line_end};
 use crate::opening::{LinePart, line_part};
+use crate::target::{comment_end, line_end};
 use std::alloc::{AllocError, Global};
 
-// Puts so many spaces behind a line.
+// Appends so many spaces to a line.
 fn push_spaces(line: &mut Vec<u8>, count: usize) -> Result<(), AllocError>
     ensures { OnOk result (line.new.items ≡ line.old.items ++ spaces count) }
 {
@@ -19,15 +19,16 @@ fn push_spaces(line: &mut Vec<u8>, count: usize) -> Result<(), AllocError>
     Ok(())
 }
 
-/// The text of the directive at the front: to before the first line feed outside a comment, or to the end, with spaces
-/// for the bytes of comments. The text stands at the place `at` of the source.
+/// The text of the directive at the start: to before the first line feed outside a comment, or to
+/// the end, with spaces for the bytes of comments. The text stands at the place `at` of the source.
 ///
 /// # Errors
 /// `OpenComment` where a comment in it isn't closed, at that comment.
 pub fn directive_line(alloc: Global, at: usize, text: &[u8]) -> Result<Vec<u8>, LexFault>
     requires { at + length text.now < 2 ^ 32 }
     ensures ok { IfOk result (λ line. HasLine text.now (Ok line.items)) }
-    ensures err { IfErr result (λ f. f ≢ fault.NoMemory → (place : ℕ) × HasLine text.now (Err place) × (f ≡ fault.OpenComment (at + place))) }
+    ensures err { IfErr result (λ f. f ≢ fault.NoMemory
+        → (place : ℕ) × HasLine text.now (Err place) × (f ≡ fault.OpenComment (at + place))) }
 {
     let mut line = Vec::new(alloc);
     let mut place = 0;

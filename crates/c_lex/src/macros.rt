@@ -29,7 +29,7 @@ impl MacroMap {
         Ok(MacroMap { values })
     }
 
-    /// The value of the macro of that name, if it is one. It takes no memory.
+    /// The value of the macro of that name, if it is one.
     pub fn value(&self, name: &[u8]) -> Option<i64>
         ensures { result ≡ value_in self.now name.now }
     {
@@ -39,7 +39,8 @@ impl MacroMap {
     /// Defines a macro.
     pub fn define(&mut self, name: Text, value: i64) -> Result<(), LexFault>
         ensures err { IfErr result (λ f. f ≡ fault.NoMemory) }
-        ensures ok { OnOk result ((m : Macros) → Knows self.old m → Knows self.new ((name, value) ∷ m)) }
+        ensures ok { OnOk result
+            ((m : Macros) → Knows self.old m → Knows self.new ((name, value) ∷ m)) }
     {
         self.values.insert(name.into_bytes(), value)?;
         Ok(())

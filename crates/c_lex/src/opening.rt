@@ -4,8 +4,8 @@ ghost use Rattle.std.specs.Prelude.{◌≡◌, ◌<◌, length};
 ghost use Rattle.c_lex.specs.Openings as spec;
 ghost use Rattle.c_lex.specs.Places as places;
 
-use crate::mark::is_line_end;
 use crate::piece::{is_letter, is_space};
+use crate::target::is_line_end;
 
 /// What a text begins with, by its first two bytes.
 #[derive(Clone, Copy)]
@@ -29,7 +29,7 @@ pub enum Opening {
     /// A digraph.
     Digraph,
     /// A punctuator or a stray byte.
-    Mark,
+    Other,
 }
 
 /// What the text of a directive goes on with.
@@ -65,7 +65,7 @@ fn other_opening(text: &[u8]) -> Opening
     } else if is_digraph(text) {
         Opening::Digraph
     } else {
-        Opening::Mark
+        Opening::Other
     }
 }
 

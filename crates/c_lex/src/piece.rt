@@ -58,7 +58,8 @@ fn goes_on(run: Run, before: u8, byte: u8) -> bool
 /// How many bytes of the text the run takes that begins with its first byte.
 pub fn run_len(run: Run, text: &[u8]) -> usize
     requires { 0 < length text.now }
-    ensures value { result ≡ 1 + spec.chain_len (spec.goes_on run) (slice_index text.now 0) (drop 1 text.now) }
+    ensures value { result
+        ≡ 1 + spec.chain_len (spec.goes_on run) (slice_index text.now 0) (drop 1 text.now) }
     ensures within { result ≤ length text.now }
 {
     let mut len = 1;

@@ -8,9 +8,9 @@ ghost use Rattle.c_lex.specs.Lexemes.{Rise};
 ghost use Rattle.c_lex.specs.Tokens.{Outcome, Cuts, first_macros, Lexes, IsPlaced};
 
 use crate::fault::LexFault;
-use crate::front::{Front, front_of};
 use crate::macros::MacroMap;
-use crate::mark::{Mark, find, is_splice};
+use crate::scan::{Scanned, scan_at};
+use crate::target::{Target, find, is_splice};
 use crate::token::Token;
 use c_tree::Span;
 use std::alloc::Global;
@@ -19,21 +19,22 @@ use std::alloc::Global;
 fn tokens_of(alloc: Global, bytes: &[u8]) -> Result<Vec<Token>, LexFault>
     requires { length bytes.now < 2 ^ 32 }
     ensures ok { IfOk result (λ tokens. Cuts false first_macros 0 bytes.now (Ok tokens.items)) }
-    ensures err { IfErr result (λ f. f ≢ fault.NoMemory → Cuts false first_macros 0 bytes.now (Err f)) }
+    ensures err { IfErr result (λ f. f ≢ fault.NoMemory
+        → Cuts false first_macros 0 bytes.now (Err f)) }
 {
     let mut macros = MacroMap::new(alloc)?;
     let mut tokens = Vec::new(alloc);
     let mut begun = false;
     let mut at = 0;
     while at < bytes.len() {
-        let found = front_of(alloc, &macros, begun, at, &bytes[at..])?;
+        let found = scan_at(alloc, &macros, begun, at, &bytes[at..])?;
         match found {
-            Front::Pass(len) => at += len,
-            Front::Define { name, value, len } => {
+            Scanned::Pass(len) => at += len,
+            Scanned::Define { name, value, len } => {
                 macros.define(name, value)?;
                 at += len;
             }
-            Front::Take { kind, len } => {
+            Scanned::Take { kind, len } => {
                 let span = Span {
                     from: at as u32,
                     to: (at + len) as u32,
@@ -47,12 +48,14 @@ fn tokens_of(alloc: Global, bytes: &[u8]) -> Result<Vec<Token>, LexFault>
     Ok(tokens)
 }
 
-/// The tokens of a source (C11 6.4), each with the bytes that it covers. The head of a source may include <stdio.h> and
-/// <stdlib.h> and define macros of integer constants, whose names are constants in what follows.
+/// The tokens of a source (C11 6.4), each with the bytes that it covers. The head of a source may
+/// include <stdio.h> and <stdlib.h> and define macros of integer constants, whose names are
+/// constants in what follows.
 ///
 /// # Errors
-/// The first fault of the source, with its place: a line splice or a trigraph where there is one anywhere, else what the
-/// reading from the left meets first. `NoMemory` where the allocator has no memory left.
+/// The first fault of the source, with its place: a line splice or a trigraph where there is one
+/// anywhere, else what the reading from the left meets first. `NoMemory` where the allocator has no
+/// memory left.
 pub fn lex(alloc: Global, bytes: &[u8]) -> Result<Vec<Token>, LexFault>
     requires { length bytes.now < 2 ^ 32 }
     ensures ok { IfOk result (λ tokens. Lexes bytes.now (Ok tokens.items)) }
@@ -60,7 +63,7 @@ pub fn lex(alloc: Global, bytes: &[u8]) -> Result<Vec<Token>, LexFault>
     ensures err { IfErr result (λ f. f ≢ fault.NoMemory → Lexes bytes.now (Err f)) }
     ensures place { IfErr result (IsPlaced (length bytes.now)) }
 {
-    match find(Mark::Refused, bytes) {
+    match find(Target::Refused, bytes) {
         Some(at) if is_splice(&bytes[at..]) => Err(LexFault::LineSplice(at as u32)),
         Some(at) => Err(LexFault::Trigraph(at as u32)),
         None => tokens_of(alloc, bytes),
@@ -72,8 +75,8 @@ pub fn one_outcome()
     ensures { (bytes : Bytes) (r s : Outcome) → Lexes bytes r → Lexes bytes s → r ≡ s }
 {}
 
-/// The law that a source has an outcome, whatever its bytes and however long it is: its tokens, or a first fault that is
-/// not `NoMemory`.
+/// The law that a source has an outcome, whatever its bytes and however long it is: its tokens, or
+/// a first fault that is not `NoMemory`.
 pub fn some_outcome()
     ensures { EachHasOutcome }
 {}

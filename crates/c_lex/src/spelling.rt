@@ -112,16 +112,18 @@ fn lookup<K: Copy>(table: &[(&[u8], K)], word: &[u8]) -> Option<K>
     None
 }
 
-/// The keyword that is spelled so, if any. It takes no memory.
+/// The keyword that is spelled so, if any.
 pub fn keyword(word: &[u8]) -> Option<Keyword>
-    ensures { MatchOption result ((k : KeywordKind) → word.now ≢ keyword_spelling k) (λ k. word.now ≡ keyword_spelling k) }
+    ensures { MatchOption result ((k : KeywordKind) → word.now ≢ keyword_spelling k)
+        (λ k. word.now ≡ keyword_spelling k) }
 {
     lookup(&KEYWORDS, word)
 }
 
-/// The punctuator that is spelled so, if any. It takes no memory.
+/// The punctuator that is spelled so, if any.
 pub fn punctuator(word: &[u8]) -> Option<Punct>
-    ensures { MatchOption result ((p : PunctKind) → word.now ≢ punct_spelling p) (λ p. word.now ≡ punct_spelling p) }
+    ensures { MatchOption result ((p : PunctKind) → word.now ≢ punct_spelling p)
+        (λ p. word.now ≡ punct_spelling p) }
 {
     lookup(&PUNCTUATORS, word)
 }

@@ -2,12 +2,12 @@
 use Rattle.std.proofs.Common.{◌≡◌, ℕ, ◌≤◌, ◌<◌, List, [], ◌∷◌, sym, subst, arith}
 use Rattle.c_lex.specs.Lexemes.{Rise}
 use Rattle.c_grammar.specs.Grammar.{Tokens}
-use Rattle.c_grammar.proofs.Fronts.{Tail}
-use Rattle.c_grammar.proofs.ProgramFronts.{tail_viable}
+use Rattle.c_grammar.proofs.ExpressionPrefixes.{Tail}
+use Rattle.c_grammar.proofs.ProgramPrefixes.{tail_viable}
 use Rattle.c_grammar.proofs.TooDeep.{passes_deep}
 use Rattle.c_parse.specs.declared.fault.ParseFault.{ParseFault}
 use Rattle.c_parse.specs.declared.fault.ParseFault.TheVariants.{Unexpected, TooDeep, NoMemory}
-use Rattle.c_parse.specs.Faults.{place_of, Causes, IsPlaced}
+use Rattle.c_parse.specs.Results.{place_of, IsFirstFault, IsPlaced}
 
 -- spans that rise end at their end at most
 rise_within : (from end : ℕ) (a : Tokens) → Rise from end a → from ≤ end
@@ -25,7 +25,7 @@ placed from end h (Tail.all {a}) = first_within from end a h
 placed from end h (Tail.later {x} d) = placed x.1.to end h.2 d
 
 -- the place of a fault is at most the length of the source
-pub causes_placed : (end : ℕ) (a : Tokens) (e : ParseFault) → Rise 0 end a → Causes end a e → IsPlaced end e
+pub causes_placed : (end : ℕ) (a : Tokens) (e : ParseFault) → Rise 0 end a → IsFirstFault end a e → IsPlaced end e
 causes_placed end a (Unexpected at) h c = let i = placed 0 end h (tail_viable c.2.0) in subst (λ n. n ≤ end) (sym c.1) i
 causes_placed end a (TooDeep at) h c = let j = passes_deep 64 a c.0 c.2 in let i = placed 0 end h (tail_viable j.0) in subst (λ n. n ≤ end) (sym c.1) i
 causes_placed end a NoMemory h c = tt

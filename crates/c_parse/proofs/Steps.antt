@@ -1,11 +1,11 @@
 -- The descent of statements and of a function's body, with the room that the cursor has at each step.
 use Rattle.std.proofs.Common.{◌≡◌, ℕ, zero, suc, ◌-◌, ◌<◌, Bool, true, false, List, [], ◌∷◌, refl, ap, ◌∙◌, arith}
 use Rattle.c_tree.specs.declared.place.Span.{Span}
+use Rattle.c_tree.specs.Parts.{span_of_code}
 use Rattle.c_tree.specs.Tree as tree
 use Rattle.c_tree.specs.Tree.{Tree, Code, Body, Outer}
 use Rattle.c_grammar.specs.Grammar.{Tokens, over}
-use Rattle.c_grammar.specs.Programs.{code_span}
-use Rattle.c_grammar.specs.Leads.{front, is_open_brace, is_close_brace, is_else}
+use Rattle.c_grammar.specs.Terminals.{lookahead, is_open_brace, is_close_brace, is_else}
 use Rattle.c_grammar.specs.Descent.{Reading, Reader, found, unexpected, too_deep, and_then, taken, opened, entered_by, entered, expected}
 use Rattle.c_grammar.specs.ProgramDescent.{tested, block, branch, otherwise_by, statement, does, under, items, body, program}
 use Rattle.c_grammar.specs.Judge.{judge, verdict, good, unexpected_at, too_deep_at}
@@ -58,7 +58,7 @@ block_found {s} {x = x} r a h k l = ap (λ o. and_then o (opening r)) h ∙ ap (
 
 -- after the second arm
 abbrev second : ℕ → Span → Tree → Code → Code → Reader Code
-second r s t y z q d = found (tree.if_else t y z (over s (code_span z))) r d
+second r s t y z q d = found (tree.if_else t y z (over s (span_of_code z))) r d
 
 -- after the `else`
 abbrev other : ℕ → Span → Tree → Code → Span → Reader Code
@@ -66,7 +66,7 @@ other r s t y e n c = and_then (under r c) (second r s t y)
 
 -- after the first arm
 abbrev first : ℕ → Span → Tree → Code → Reader Code
-first r s t y q d = otherwise_by (under r) r (is_else (front d)) s t y q d
+first r s t y q d = otherwise_by (under r) r (is_else (lookahead d)) s t y q d
 
 -- after the test
 abbrev test : ℕ → Span → Tree → Reader Code
@@ -79,7 +79,7 @@ choice r s m b = and_then (tested m b) (test r s)
 -- an `if` whose second arm isn't read
 pub branch_fails : {s v : Span} {m n q i : ℕ} {b c d z : Tokens} {t : Tree} {y : Code} (r : ℕ) (a : Tokens) (e : Stop) (w : Tokens)
     → opened r a ≡ found s m b → tested m b ≡ found t n c → under r c ≡ found y q d
-    → is_else (front d) ≡ true → taken q d ≡ found v i z → under r z ≡ stopped e w → branch (under r) r a ≡ stopped e w
+    → is_else (lookahead d) ≡ true → taken q d ≡ found v i z → under r z ≡ stopped e w → branch (under r) r a ≡ stopped e w
 branch_fails {s} {q = q} {d = d} {t = t} {y = y} r a e w h1 h2 h3 h4 h5 h6 =
     ap (λ o. and_then o (choice r)) h1 ∙ ap (λ o. and_then o (test r s)) h2 ∙ ap (λ o. and_then o (first r s t)) h3
     ∙ ap (λ l. otherwise_by (under r) r l s t y q d) h4
@@ -108,7 +108,7 @@ brace_steps true (suc r) ((k, s) ∷ a) = refl
 brace_steps false r a = refl
 
 body-steps : (r : ℕ) (a : Tokens) → body r a ≡ body_steps r a
-body-steps r a = brace_steps (is_open_brace (front a)) r a
+body-steps r a = brace_steps (is_open_brace (lookahead a)) r a
 
 -- after its `{`
 abbrev unfolded : ℕ → Span → Reader (Body × Span)

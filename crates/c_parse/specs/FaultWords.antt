@@ -3,7 +3,7 @@ use Rattle.std.specs.Prelude.{ℕ, List, Option, Some, None, codes}
 use Rattle.c_parse.specs.declared.fault.ParseFault.{ParseFault}
 use Rattle.c_parse.specs.declared.fault.ParseFault.TheVariants.{Unexpected, TooDeep, NoMemory}
 
--- its place in the source; a lack of memory has none
+-- its place in the source; out of memory has none
 abbrev pub fault_place : ParseFault → Option ℕ
 fault_place (Unexpected place) = Some place
 fault_place (TooDeep place) = Some place

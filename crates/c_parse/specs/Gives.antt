@@ -15,7 +15,7 @@ use Rattle.c_tree.specs.declared.stmt.Ty.{Ty}
 use Rattle.c_tree.specs.Tree as plain
 use Rattle.c_tree.specs.Tree.{Tree, Variable, First, Body, Outer}
 use Rattle.c_tree.specs.Views.{node_tree, tree, tree_option, trees, variables, first, with_item, body_of, outer}
-use Rattle.c_grammar.specs.declared.part.Part.{Part}
+use Rattle.c_grammar.specs.declared.nonterminal.Nonterminal.{Nonterminal}
 use Rattle.c_grammar.specs.Grammar.{Tokens, Given, by_value, by_format, by_address}
 use Rattle.c_grammar.specs.Descent.{Reading, found, unexpected, too_deep, Reader, Read, run}
 use Rattle.c_parse.specs.declared.cursor.Cursor.{Cursor}
@@ -29,14 +29,17 @@ stopped Unexpected b = unexpected b
 stopped TooDeep b = too_deep b
 stopped NoMemory b = unexpected b
 
--- the result is what the descent finds, seen as a plain tree, with the room and the tokens after it; or it is the fault
+-- the result is what the descent finds, seen as a plain tree, with the room and the tokens after
+-- it; or it is the fault
 abbrev pub Gives : {X A : Type 0} → (X → A) → Reading A → Result X Stop → ℕ → Tokens → Type 0
 Gives view o (Ok x) m b = o ≡ found (view x) m b
 Gives view o (Err e) m b = e ≢ NoMemory → o ≡ stopped e b
 
--- the result is what the reader finds at the cursor, seen as a plain tree, and the cursor is then after it, or at the fault
+-- the result is what the reader finds at the cursor, seen as a plain tree, and the cursor is then
+-- after it, or at the fault
 abbrev pub Parses : {X A : Type 0} → (X → A) → Reader A → Cursor → Result X Stop → Cursor → Type 0
-Parses view reader before result after = Gives view (reader before.room before.rest.now) result after.room after.rest.now
+Parses view reader before result after =
+    Gives view (reader before.room before.rest.now) result after.room after.rest.now
 
 -- ---- how results are seen
 
@@ -108,13 +111,16 @@ outers v = map outer v.items
 
 -- ---- parsers of the parts after an opener
 
--- The parser of parts that an expression parser takes: it may always be called at the parser's depth, and then gives what the descent
--- comes to. The turns are one more than the depth.
-pub record ReadsParts {F : Type 0} (pre : F → Global → MutBor Cursor → ℕ → Part → Type 0)
-    (post : F → Global → MutBor Cursor → ℕ → Part → Result (Expr × Bool) Stop → MutBor Cursor → Type 0)
+-- The parser of parts that an expression parser takes: it may always be called at the parser's
+-- depth, and then gives what the descent comes to. The turns are one more than the depth.
+pub record ReadsParts {F : Type 0} (pre : F → Global → MutBor Cursor → ℕ → Nonterminal → Type 0)
+    (post : F → Global → MutBor Cursor → ℕ → Nonterminal → Result (Expr × Bool) Stop
+    → MutBor Cursor → Type 0)
     (p : ExpressionParser F) : Type 0 where
   pub counted : p.turns ≡ suc p.depth
-  pub callable : (alloc : Global) (old : MutBor Cursor) (part : Part) → pre p.parse_part alloc old p.depth part
-  pub reads : (alloc : Global) (old new : MutBor Cursor) (part : Part) (r : Result (Expr × Bool) Stop)
+  pub callable : (alloc : Global) (old : MutBor Cursor) (part : Nonterminal)
+      → pre p.parse_part alloc old p.depth part
+  pub reads : (alloc : Global) (old new : MutBor Cursor) (part : Nonterminal)
+      (r : Result (Expr × Bool) Stop)
       → post p.parse_part alloc old p.depth part r new
       → Parses marked (run p.depth part) old.now r new.now

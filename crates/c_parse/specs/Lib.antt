@@ -1,4 +1,4 @@
 pub mod Gives
 pub mod Parts
-pub mod Faults
+pub mod Results
 pub mod FaultWords

@@ -2,27 +2,28 @@
 use Rattle.std.specs.Prelude.{ℕ, ℤ, Bool, List, Option}
 use Rattle.c_tree.specs.declared.place.Span.{Span}
 use Rattle.c_tree.specs.Tree.{Tree, Code, Variable}
-use Rattle.c_grammar.specs.declared.lead.Lead.{Lead}
+use Rattle.c_grammar.specs.declared.terminal.Terminal.{Terminal}
 use Rattle.c_grammar.specs.Grammar.{Tokens}
-use Rattle.c_grammar.specs.Leads.{front, is_constant, is_assign, is_while, is_semicolon}
+use Rattle.c_grammar.specs.Terminals.{lookahead, is_constant, is_assign, is_while, is_semicolon}
 use Rattle.c_grammar.specs.Descent.{Reading, Reader, found, and_then, expected, all_listed}
 use Rattle.c_grammar.specs.ProgramDescent.{bound_by, scalar_by, tested, under}
 
 -- a token that closes what an opener opened: the room after it is the room outside
-abbrev pub closed : (Lead → Bool) → ℕ → Reader Span
+abbrev pub closed : (Terminal → Bool) → ℕ → Reader Span
 closed is outside r a = expected is outside a
 
--- parts with commas between them, each with the room before the list; after a comma the list ends where the test says so
-abbrev pub comma_list : {A : Type 0} → (Lead → Bool) → Reader A → Reader (List A)
+-- parts with commas between them, each with the room before the list; after a comma the list ends
+-- where the test says so
+abbrev pub comma_list : {A : Type 0} → (Terminal → Bool) → Reader A → Reader (List A)
 comma_list ends part r a = all_listed ends (part r) r a
 
 -- the length of an array, where one is written
 abbrev pub array_length : Reader (Option ℤ)
-array_length r a = bound_by (is_constant (front a)) r a
+array_length r a = bound_by (is_constant (lookahead a)) r a
 
 -- what comes after the name of a variable that is one number
 abbrev pub scalar : List ℕ × Span → Reader Variable
-scalar w r a = scalar_by (is_assign (front a)) w r a
+scalar w r a = scalar_by (is_assign (lookahead a)) w r a
 
 -- a statement inside another one, outside of which there is that room
 abbrev pub inner : ℕ → Reader Code
@@ -32,8 +33,10 @@ inner outside r a = under outside a
 abbrev pub with_inner : ((Tokens → Reading Code) → Reader Code) → Reader Code
 with_inner form r a = form (under r) r a
 
--- `while ( expression ) ;` after the body of a `do`, with the span of the `;`; the outer room comes first
+-- `while ( expression ) ;` after the body of a `do`, with the span of the `;`; the outer room comes
+-- first
 abbrev pub do_end : ℕ → Reader (Tree × Span)
 do_end outside r a =
     and_then (expected is_while r a) (λ w m b.
-    and_then (tested m b) (λ t n c. and_then (expected is_semicolon outside c) (λ e q d. found (t, e) q d)))
+    and_then (tested m b)
+    (λ t n c. and_then (expected is_semicolon outside c) (λ e q d. found (t, e) q d)))

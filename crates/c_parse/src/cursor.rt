@@ -2,7 +2,7 @@
 
 ghost use Rattle.std.specs.Prelude.{◌≡◌, IfOk};
 ghost use Rattle.c_grammar.specs.Descent as spec;
-ghost use Rattle.c_grammar.specs.Leads as leads;
+ghost use Rattle.c_grammar.specs.Terminals as terminals;
 ghost use Rattle.c_grammar.specs.Operators as operators;
 ghost use Rattle.c_grammar.specs.ProgramDescent as program;
 ghost use Rattle.c_grammar.specs.Grammar.{over};
@@ -10,7 +10,7 @@ ghost use Rattle.c_parse.specs.Gives.{Parses, itself, named, numbered};
 ghost use Rattle.c_parse.specs.Parts as parts;
 
 use crate::fault::Stop;
-use c_grammar::{Lead, lead_of};
+use c_grammar::{Terminal, terminal_of};
 use c_lex::{Token, TokenKind};
 use c_tree::{BinOp, NoMemory, Span, Text, Ty, UnOp};
 use std::alloc::Global;
@@ -24,153 +24,154 @@ pub struct Cursor<'a> {
 
 impl<'a> Cursor<'a> {
     /// What the next token is to the grammar.
-    pub fn peek(&self) -> Lead
-        ensures { result ≡ leads.front self.now.rest.now }
+    pub fn peek(&self) -> Terminal
+        ensures { result ≡ terminals.lookahead self.now.rest.now }
     {
         match self.rest {
-            [] => Lead::End,
-            [token, ..] => lead_of(&token.kind),
+            [] => Terminal::End,
+            [token, ..] => terminal_of(&token.kind),
         }
     }
 
     /// Whether `)` comes next.
     pub fn is_at_close_paren(&self) -> bool
-        ensures { result ≡ leads.is_close_paren (leads.front self.now.rest.now) }
+        ensures { result ≡ terminals.is_close_paren (terminals.lookahead self.now.rest.now) }
     {
-        matches!(self.peek(), Lead::CloseParen)
+        matches!(self.peek(), Terminal::CloseParen)
     }
 
     /// Whether `[` comes next.
     pub fn is_at_open_bracket(&self) -> bool
-        ensures { result ≡ leads.is_open_bracket (leads.front self.now.rest.now) }
+        ensures { result ≡ terminals.is_open_bracket (terminals.lookahead self.now.rest.now) }
     {
-        matches!(self.peek(), Lead::OpenBracket)
+        matches!(self.peek(), Terminal::OpenBracket)
     }
 
     /// Whether `}` comes next.
     pub fn is_at_close_brace(&self) -> bool
-        ensures { result ≡ leads.is_close_brace (leads.front self.now.rest.now) }
+        ensures { result ≡ terminals.is_close_brace (terminals.lookahead self.now.rest.now) }
     {
-        matches!(self.peek(), Lead::CloseBrace)
+        matches!(self.peek(), Terminal::CloseBrace)
     }
 
     /// Whether `;` comes next.
     pub fn is_at_semicolon(&self) -> bool
-        ensures { result ≡ leads.is_semicolon (leads.front self.now.rest.now) }
+        ensures { result ≡ terminals.is_semicolon (terminals.lookahead self.now.rest.now) }
     {
-        matches!(self.peek(), Lead::Semicolon)
+        matches!(self.peek(), Terminal::Semicolon)
     }
 
     /// Whether `,` comes next.
     pub fn is_at_comma(&self) -> bool
-        ensures { result ≡ leads.is_comma (leads.front self.now.rest.now) }
+        ensures { result ≡ terminals.is_comma (terminals.lookahead self.now.rest.now) }
     {
-        matches!(self.peek(), Lead::Comma)
+        matches!(self.peek(), Terminal::Comma)
     }
 
     /// Whether `?` comes next.
     pub fn is_at_question(&self) -> bool
-        ensures { result ≡ leads.is_question (leads.front self.now.rest.now) }
+        ensures { result ≡ terminals.is_question (terminals.lookahead self.now.rest.now) }
     {
-        matches!(self.peek(), Lead::Question)
+        matches!(self.peek(), Terminal::Question)
     }
 
     /// Whether a constant comes next.
     pub fn is_at_constant(&self) -> bool
-        ensures { result ≡ leads.is_constant (leads.front self.now.rest.now) }
+        ensures { result ≡ terminals.is_constant (terminals.lookahead self.now.rest.now) }
     {
-        matches!(self.peek(), Lead::Constant)
+        matches!(self.peek(), Terminal::Constant)
     }
 
     /// Whether `else` comes next.
     pub fn is_at_else(&self) -> bool
-        ensures { result ≡ leads.is_else (leads.front self.now.rest.now) }
+        ensures { result ≡ terminals.is_else (terminals.lookahead self.now.rest.now) }
     {
-        matches!(self.peek(), Lead::Else)
+        matches!(self.peek(), Terminal::Else)
     }
 
     /// Whether `=` comes next.
     pub fn is_at_assign(&self) -> bool
-        ensures { result ≡ leads.is_assign (leads.front self.now.rest.now) }
+        ensures { result ≡ terminals.is_assign (terminals.lookahead self.now.rest.now) }
     {
-        matches!(self.peek(), Lead::Assign(None))
+        matches!(self.peek(), Terminal::Assign(None))
     }
 
     /// Whether the tokens end.
     pub fn is_at_end(&self) -> bool
-        ensures { result ≡ leads.is_end (leads.front self.now.rest.now) }
+        ensures { result ≡ terminals.is_end (terminals.lookahead self.now.rest.now) }
     {
-        matches!(self.peek(), Lead::End)
+        matches!(self.peek(), Terminal::End)
     }
 
-    /// The type that comes next, if one does.
-    pub fn peek_type(&self) -> Option<Ty>
-        ensures { result ≡ leads.type_at (leads.front self.now.rest.now) }
+    // The type that comes next, if one does.
+    fn peek_type(&self) -> Option<Ty>
+        ensures { result ≡ terminals.type_at (terminals.lookahead self.now.rest.now) }
     {
         match self.peek() {
-            Lead::Type(ty) => Some(ty),
+            Terminal::Type(ty) => Some(ty),
             _ => None,
         }
     }
 
     /// Whether `++` comes next, which is `true`, or `--`, if one of them does.
     pub fn peek_bump(&self) -> Option<bool>
-        ensures { result ≡ leads.bump_at (leads.front self.now.rest.now) }
+        ensures { result ≡ terminals.bump_at (terminals.lookahead self.now.rest.now) }
     {
         match self.peek() {
-            Lead::Bump(up) => Some(up),
+            Terminal::Bump(up) => Some(up),
             _ => None,
         }
     }
 
     /// The assignment operator that comes next, if one does: `None` inside stands for `=`.
     pub fn peek_assignment(&self) -> Option<Option<BinOp>>
-        ensures { result ≡ leads.assignment_at (leads.front self.now.rest.now) }
+        ensures { result ≡ terminals.assignment_at (terminals.lookahead self.now.rest.now) }
     {
         match self.peek() {
-            Lead::Assign(op) => Some(op),
+            Terminal::Assign(op) => Some(op),
             _ => None,
         }
     }
 
-    /// The type that a function returns whose declaration comes next: `None` inside stands for `void`.
+    /// The type that a function returns whose declaration comes next: `None` inside stands for
+    /// `void`.
     pub fn peek_result_type(&self) -> Option<Option<Ty>>
-        ensures { result ≡ leads.result_at (leads.front self.now.rest.now) }
+        ensures { result ≡ terminals.result_at (terminals.lookahead self.now.rest.now) }
     {
         match self.peek() {
-            Lead::Type(ty) => Some(Some(ty)),
-            Lead::Void => Some(None),
+            Terminal::Type(ty) => Some(Some(ty)),
+            Terminal::Void => Some(None),
             _ => None,
         }
     }
 
     /// The prefix operator that comes next, if one does (C11 6.5.3.3).
     pub fn peek_prefix_operator(&self) -> Option<UnOp>
-        ensures { result ≡ leads.prefix_at (leads.front self.now.rest.now) }
+        ensures { result ≡ terminals.prefix_at (terminals.lookahead self.now.rest.now) }
     {
         match self.peek() {
-            Lead::Prefix(op) => Some(op),
-            Lead::Binary(op) => as_prefix_operator(op),
+            Terminal::Prefix(op) => Some(op),
+            Terminal::Binary(op) => as_prefix_operator(op),
             _ => None,
         }
     }
 
     /// The binary operator of that rank that comes next, if one does.
     pub fn peek_binary_operator(&self, at: u8) -> Option<BinOp>
-        ensures { result ≡ leads.operator_at at (leads.front self.now.rest.now) }
+        ensures { result ≡ terminals.operator_at at (terminals.lookahead self.now.rest.now) }
     {
         match self.peek() {
-            Lead::Binary(op) => { if rank(op) == at { Some(op) } else { None } }
+            Terminal::Binary(op) => { if rank(op) == at { Some(op) } else { None } }
             _ => None,
         }
     }
 
     /// Whether `(` and a type come next.
     pub fn is_at_type_cast(&self) -> bool
-        ensures { result ≡ leads.casts self.now.rest.now }
+        ensures { result ≡ terminals.casts self.now.rest.now }
     {
         match self.peek() {
-            Lead::OpenParen => matches!(self.after_next().peek(), Lead::Type(_)),
+            Terminal::OpenParen => matches!(self.after_next().peek(), Terminal::Type(_)),
             _ => false,
         }
     }
@@ -180,15 +181,18 @@ impl<'a> Cursor<'a> {
         ensures { result ≡ program.is_func self.now.rest.now }
     {
         match self.peek() {
-            Lead::Void => true,
-            Lead::Type(_) => matches!(self.after_next().after_next().peek(), Lead::OpenParen),
+            Terminal::Void => true,
+            Terminal::Type(_) => matches!(
+                self.after_next().after_next().peek(),
+                Terminal::OpenParen
+            ),
             _ => false,
         }
     }
 
-    /// The cursor after the next token.
+    // The cursor after the next token.
     fn after_next(&self) -> Cursor<'a>
-        ensures { result.rest.now ≡ leads.rest self.now.rest.now }
+        ensures { result.rest.now ≡ terminals.rest self.now.rest.now }
     {
         let rest = match self.rest {
             [] => self.rest,
@@ -226,83 +230,86 @@ impl<'a> Cursor<'a> {
 
     /// Takes `(`, an opener.
     pub fn expect_open_paren(&mut self) -> Result<Span, Stop>
-        ensures { Parses itself (spec.entered leads.is_open_paren) self.old result self.new }
+        ensures { Parses itself (spec.entered terminals.is_open_paren) self.old result self.new }
     {
         match self.peek() {
-            Lead::OpenParen => self.open(),
+            Terminal::OpenParen => self.open(),
             _ => Err(Stop::Unexpected),
         }
     }
 
     /// Takes `{`, an opener.
     pub fn expect_open_brace(&mut self) -> Result<Span, Stop>
-        ensures { Parses itself (spec.entered leads.is_open_brace) self.old result self.new }
+        ensures { Parses itself (spec.entered terminals.is_open_brace) self.old result self.new }
     {
         match self.peek() {
-            Lead::OpenBrace => self.open(),
+            Terminal::OpenBrace => self.open(),
             _ => Err(Stop::Unexpected),
         }
     }
 
     /// Takes `)`: the room is again the one outside.
     pub fn expect_close_paren(&mut self, outside: u8) -> Result<Span, Stop>
-        ensures { Parses itself (parts.closed leads.is_close_paren outside) self.old result self.new }
+        ensures { Parses itself (parts.closed terminals.is_close_paren outside)
+            self.old result self.new }
     {
         self.room = outside;
         match self.peek() {
-            Lead::CloseParen => self.advance(),
+            Terminal::CloseParen => self.advance(),
             _ => Err(Stop::Unexpected),
         }
     }
 
     /// Takes `]`: the room is again the one outside.
     pub fn expect_close_bracket(&mut self, outside: u8) -> Result<Span, Stop>
-        ensures { Parses itself (parts.closed leads.is_close_bracket outside) self.old result self.new }
+        ensures { Parses itself (parts.closed terminals.is_close_bracket outside)
+            self.old result self.new }
     {
         self.room = outside;
         match self.peek() {
-            Lead::CloseBracket => self.advance(),
+            Terminal::CloseBracket => self.advance(),
             _ => Err(Stop::Unexpected),
         }
     }
 
     /// Takes `}`: the room is again the one outside.
     pub fn expect_close_brace(&mut self, outside: u8) -> Result<Span, Stop>
-        ensures { Parses itself (parts.closed leads.is_close_brace outside) self.old result self.new }
+        ensures { Parses itself (parts.closed terminals.is_close_brace outside)
+            self.old result self.new }
     {
         self.room = outside;
         match self.peek() {
-            Lead::CloseBrace => self.advance(),
+            Terminal::CloseBrace => self.advance(),
             _ => Err(Stop::Unexpected),
         }
     }
 
     /// Takes `;`.
     pub fn expect_semicolon(&mut self) -> Result<Span, Stop>
-        ensures { Parses itself (spec.expected leads.is_semicolon) self.old result self.new }
+        ensures { Parses itself (spec.expected terminals.is_semicolon) self.old result self.new }
     {
         match self.peek() {
-            Lead::Semicolon => self.advance(),
+            Terminal::Semicolon => self.advance(),
             _ => Err(Stop::Unexpected),
         }
     }
 
     /// Takes `:`.
     pub fn expect_colon(&mut self) -> Result<Span, Stop>
-        ensures { Parses itself (spec.expected leads.is_colon) self.old result self.new }
+        ensures { Parses itself (spec.expected terminals.is_colon) self.old result self.new }
     {
         match self.peek() {
-            Lead::Colon => self.advance(),
+            Terminal::Colon => self.advance(),
             _ => Err(Stop::Unexpected),
         }
     }
 
     /// Takes `while`.
     pub fn expect_while(&mut self) -> Result<Span, Stop>
-        ensures { Parses itself (spec.expected leads.is_while) self.old result self.new }
+        ensures { Parses itself (spec.expected terminals.is_while) self.old result self.new }
     {
         match self.peek() {
-            Lead::While => self.advance(),
+            Terminal::While => self.advance(),
             _ => Err(Stop::Unexpected),
         }
     }
@@ -369,9 +376,9 @@ impl<'a> Cursor<'a> {
     }
 }
 
-/// The prefix operator that is written like this binary one, if there is one (C11 6.5.3.3).
+// The prefix operator that is written like this binary one, if there is one (C11 6.5.3.3).
 fn as_prefix_operator(op: BinOp) -> Option<UnOp>
-    ensures { result ≡ leads.binary_prefix op }
+    ensures { result ≡ terminals.binary_prefix op }
 {
     match op {
         BinOp::Add => Some(UnOp::Plus),
@@ -380,7 +387,7 @@ fn as_prefix_operator(op: BinOp) -> Option<UnOp>
     }
 }
 
-/// The rank of an operator: the higher, the weaker it binds (C11 6.5.5 to 6.5.14).
+// The rank of an operator: the higher, the weaker it binds (C11 6.5.5 to 6.5.14).
 fn rank(op: BinOp) -> u8
     ensures { result ≡ operators.rank op }
 {
@@ -398,7 +405,7 @@ fn rank(op: BinOp) -> u8
     }
 }
 
-/// A copy of a text.
+// A copy of a text.
 fn copy_text(alloc: Global, word: &Text) -> Result<Text, NoMemory>
     ensures { IfOk result (λ copy. copy ≡ word.now) }
 {

@@ -1,8 +1,8 @@
 //! The parser of declarations of variables (C11 6.7).
 
 ghost use Rattle.c_tree.specs.Views.{variable};
-ghost use Rattle.c_grammar.specs.declared.part.Part.TheVariants.{Assignment};
-ghost use Rattle.c_grammar.specs.Leads as leads;
+ghost use Rattle.c_grammar.specs.declared.nonterminal.Nonterminal.TheVariants.{Assignment};
+ghost use Rattle.c_grammar.specs.Terminals as terminals;
 ghost use Rattle.c_grammar.specs.ProgramDescent as spec;
 ghost use Rattle.c_parse.specs.Gives as seen;
 ghost use Rattle.c_parse.specs.Gives.{Parses, itself};
@@ -12,11 +12,11 @@ use crate::cursor::{Cursor, span_over};
 use crate::expression::parse_expression;
 use crate::fault::Stop;
 use crate::tree::declarator;
-use c_grammar::Part;
+use c_grammar::Nonterminal;
 use c_tree::{Declarator, Expr, Shape, Span, Start, Text, Ty};
 use std::alloc::Global;
 
-/// Parses the length of an array, where one is written.
+// Parses the length of an array, where one is written.
 fn parse_array_length(alloc: Global, cursor: &mut Cursor<'_>) -> Result<Option<i64>, Stop>
     ensures { Parses itself parts.array_length cursor.old result cursor.new }
 {
@@ -39,16 +39,17 @@ pub fn parse_brackets(alloc: Global, cursor: &mut Cursor<'_>) -> Result<(Option<
     Ok((length, to))
 }
 
-/// Parses the elements of an initializer list, with commas between them, up to its `}`.
+// Parses the elements of an initializer list, with commas between them, up to its `}`.
 fn parse_initializer_list(alloc: Global, cursor: &mut Cursor<'_>) -> Result<Vec<Expr>, Stop>
-    ensures { Parses seen.elements (parts.comma_list leads.is_close_brace (spec.value Assignment))
+    ensures { Parses seen.elements
+        (parts.comma_list terminals.is_close_brace (spec.value Assignment))
         cursor.old result cursor.new }
 {
     let room = cursor.room;
     let mut elements = Vec::new(alloc);
     for _turn in 0..cursor.rest.len() + 1 {
         cursor.room = room;
-        let next = parse_expression(alloc, cursor, Part::Assignment)?;
+        let next = parse_expression(alloc, cursor, Nonterminal::Assignment)?;
         elements.push(next)?;
         if !cursor.is_at_comma() {
             return Ok(elements);
@@ -61,7 +62,7 @@ fn parse_initializer_list(alloc: Global, cursor: &mut Cursor<'_>) -> Result<Vec<
     Err(Stop::Unexpected)
 }
 
-/// Parses `{ elements }`.
+// Parses `{ elements }`.
 fn parse_braced_initializer(alloc: Global, cursor: &mut Cursor<'_>) -> Result<Vec<Expr>, Stop>
     ensures { Parses seen.elements spec.elements cursor.old result cursor.new }
 {
@@ -72,7 +73,7 @@ fn parse_braced_initializer(alloc: Global, cursor: &mut Cursor<'_>) -> Result<Ve
     Ok(elements)
 }
 
-/// Parses what comes after an array's name.
+// Parses what comes after an array's name.
 fn parse_array_rest(
     alloc: Global,
     cursor: &mut Cursor<'_>,
@@ -91,7 +92,7 @@ fn parse_array_rest(
     Ok(declarator(word, span_over(at, to), shape, Start::List(elements)))
 }
 
-/// Parses what comes after the name of a variable that is one number.
+// Parses what comes after the name of a variable that is one number.
 fn parse_scalar_rest(
     alloc: Global,
     cursor: &mut Cursor<'_>,
@@ -104,11 +105,11 @@ fn parse_scalar_rest(
         return Ok(declarator(word, at, Shape::Scalar, Start::Bare));
     }
     cursor.advance()?;
-    let value = parse_expression(alloc, cursor, Part::Assignment)?;
+    let value = parse_expression(alloc, cursor, Nonterminal::Assignment)?;
     Ok(declarator(word, at, Shape::Scalar, Start::One(value)))
 }
 
-/// Parses a declared variable, with its initializer where it has one.
+// Parses a declared variable, with its initializer where it has one.
 fn parse_declarator(alloc: Global, cursor: &mut Cursor<'_>) -> Result<Declarator, Stop>
     ensures { Parses variable spec.declarator cursor.old result cursor.new }
 {
@@ -120,7 +121,7 @@ fn parse_declarator(alloc: Global, cursor: &mut Cursor<'_>) -> Result<Declarator
     }
 }
 
-/// Parses one declared variable, or more with commas between them.
+// Parses one declared variable, or more with commas between them.
 fn parse_declarator_list(alloc: Global, cursor: &mut Cursor<'_>) -> Result<Vec<Declarator>, Stop>
     ensures { Parses seen.declared spec.declarators cursor.old result cursor.new }
 {

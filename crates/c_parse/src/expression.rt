@@ -4,7 +4,7 @@ ghost use Rattle.std.specs.Prelude.{◌<◌, true, false};
 ghost use Rattle.c_tree.specs.Views.{tree};
 ghost use Rattle.c_grammar.specs.Descent as spec;
 ghost use Rattle.c_grammar.specs.Descent.{run};
-ghost use Rattle.c_grammar.specs.Leads as leads;
+ghost use Rattle.c_grammar.specs.Terminals as terminals;
 ghost use Rattle.c_grammar.specs.ProgramDescent as program;
 ghost use Rattle.c_parse.specs.Gives.{Parses, ReadsParts, marked, given, givens};
 ghost use Rattle.c_parse.specs.Parts as parts;
@@ -15,15 +15,15 @@ use crate::tree::{
     assign_expr, binary_expr, call_expr, cast_expr, comma_expr, conditional_expr, const_expr,
     index_expr, name_expr, parenthesized, postfix_bump_expr, prefix_bump_expr, unary_expr,
 };
-use c_grammar::{Lead, Part};
+use c_grammar::{Nonterminal, Terminal};
 use c_tree::{Arg, BinOp, Expr, Span, Text, UnOp};
 use std::alloc::Global;
 
-/// The rank of `||`, the operator that binds weakest.
+// The rank of `||`, the operator that binds weakest.
 const WEAKEST: u8 = 10;
 
-/// A parser of expressions. `parse_part` parses the parts after an opener, to a given depth of nesting, here `depth`.
-/// At most `turns` operators of one rank may follow one another.
+// A parser of expressions. `parse_part` parses the parts after an opener, to a given depth of
+// nesting, here `depth`. At most `turns` operators of one rank may follow one another.
 #[derive(Clone, Copy)]
 pub struct ExpressionParser<F> {
     pub alloc: Global,
@@ -32,29 +32,29 @@ pub struct ExpressionParser<F> {
     pub parse_part: F,
 }
 
-impl<F: Fn(Global, &mut Cursor<'_>, usize, Part) -> Result<(Expr, bool), Stop>> ExpressionParser<
-    F,
-> {
-    /// Parses a part after an opener.
-    fn parse_nested(&self, cursor: &mut Cursor<'_>, part: Part) -> Result<(Expr, bool), Stop>
+impl<
+    F: Fn(Global, &mut Cursor<'_>, usize, Nonterminal) -> Result<(Expr, bool), Stop>,
+> ExpressionParser<F> {
+    // Parses a part after an opener.
+    fn parse_nested(&self, cursor: &mut Cursor<'_>, part: Nonterminal) -> Result<(Expr, bool), Stop>
         requires { ReadsParts F.pre F.post self.now }
         ensures { Parses marked (run self.now.depth part) cursor.old result cursor.new }
     {
         (self.parse_part)(self.alloc, cursor, self.depth, part)
     }
 
-    /// Parses an argument that is a value.
+    // Parses an argument that is a value.
     fn parse_value_argument(&self, cursor: &mut Cursor<'_>) -> Result<Arg, Stop>
         requires { ReadsParts F.pre F.post self.now }
         ensures { Parses given (spec.value (run self.now.depth)) cursor.old result cursor.new }
     {
         let room = cursor.room;
-        let (value, _) = self.parse_nested(cursor, Part::Assignment)?;
+        let (value, _) = self.parse_nested(cursor, Nonterminal::Assignment)?;
         cursor.room = room;
         Ok(Arg::Value(value))
     }
 
-    /// Parses an argument that is a string literal.
+    // Parses an argument that is a string literal.
     fn parse_format_argument(&self, cursor: &mut Cursor<'_>) -> Result<Arg, Stop>
         requires { ReadsParts F.pre F.post self.now }
         ensures { Parses given (spec.format (run self.now.depth)) cursor.old result cursor.new }
@@ -63,34 +63,35 @@ impl<F: Fn(Global, &mut Cursor<'_>, usize, Part) -> Result<(Expr, bool), Stop>> 
         Ok(Arg::Format(word, span))
     }
 
-    /// Parses an argument that is an address: `&` and a place.
+    // Parses an argument that is an address: `&` and a unary expression.
     fn parse_address_argument(&self, cursor: &mut Cursor<'_>) -> Result<Arg, Stop>
         requires { ReadsParts F.pre F.post self.now }
         ensures { Parses given (spec.address (run self.now.depth)) cursor.old result cursor.new }
     {
         let room = cursor.room;
         cursor.open()?;
-        let (place, _) = self.parse_nested(cursor, Part::Unary)?;
+        let (place, _) = self.parse_nested(cursor, Nonterminal::Unary)?;
         cursor.room = room;
         Ok(Arg::Address(place))
     }
 
-    /// Parses an argument of a call.
+    // Parses an argument of a call.
     fn parse_argument(&self, cursor: &mut Cursor<'_>) -> Result<Arg, Stop>
         requires { ReadsParts F.pre F.post self.now }
         ensures { Parses given (spec.argument (run self.now.depth)) cursor.old result cursor.new }
     {
         match cursor.peek() {
-            Lead::Text => self.parse_format_argument(cursor),
-            Lead::Binary(BinOp::BitAnd) => self.parse_address_argument(cursor),
+            Terminal::Text => self.parse_format_argument(cursor),
+            Terminal::Binary(BinOp::BitAnd) => self.parse_address_argument(cursor),
             _ => self.parse_value_argument(cursor),
         }
     }
 
-    /// Parses one argument, or more with commas between them.
+    // Parses one argument, or more with commas between them.
     fn parse_argument_list(&self, cursor: &mut Cursor<'_>) -> Result<Vec<Arg>, Stop>
         requires { ReadsParts F.pre F.post self.now }
-        ensures { Parses givens (parts.comma_list leads.never (spec.argument (run self.now.depth)))
+        ensures { Parses givens
+            (parts.comma_list terminals.never (spec.argument (run self.now.depth)))
             cursor.old result cursor.new }
     {
         let room = cursor.room;
@@ -107,7 +108,7 @@ impl<F: Fn(Global, &mut Cursor<'_>, usize, Part) -> Result<(Expr, bool), Stop>> 
         Err(Stop::Unexpected)
     }
 
-    /// Parses the arguments of a call, up to its `)`.
+    // Parses the arguments of a call, up to its `)`.
     fn parse_arguments(&self, cursor: &mut Cursor<'_>) -> Result<Vec<Arg>, Stop>
         requires { ReadsParts F.pre F.post self.now }
         ensures { Parses givens (spec.arguments (run self.now.depth)) cursor.old result cursor.new }
@@ -119,7 +120,7 @@ impl<F: Fn(Global, &mut Cursor<'_>, usize, Part) -> Result<(Expr, bool), Stop>> 
         }
     }
 
-    /// Parses `[ expression ]` after a name.
+    // Parses `[ expression ]` after a name.
     fn parse_index(
         &self,
         cursor: &mut Cursor<'_>,
@@ -127,11 +128,12 @@ impl<F: Fn(Global, &mut Cursor<'_>, usize, Part) -> Result<(Expr, bool), Stop>> 
         at: Span,
     ) -> Result<(Expr, bool), Stop>
         requires { ReadsParts F.pre F.post self.now }
-        ensures { Parses marked (spec.index (run self.now.depth) word at) cursor.old result cursor.new }
+        ensures { Parses marked (spec.index (run self.now.depth) word at)
+            cursor.old result cursor.new }
     {
         let outside = cursor.room;
         cursor.open()?;
-        let (index, _) = self.parse_nested(cursor, Part::Expression)?;
+        let (index, _) = self.parse_nested(cursor, Nonterminal::Expression)?;
         let to = cursor.expect_close_bracket(outside)?;
         Ok((
             index_expr(self.alloc, word, index, span_over(at, to))?,
@@ -139,7 +141,7 @@ impl<F: Fn(Global, &mut Cursor<'_>, usize, Part) -> Result<(Expr, bool), Stop>> 
         ))
     }
 
-    /// Parses `( arguments )` after a name.
+    // Parses `( arguments )` after a name.
     fn parse_call(
         &self,
         cursor: &mut Cursor<'_>,
@@ -147,7 +149,8 @@ impl<F: Fn(Global, &mut Cursor<'_>, usize, Part) -> Result<(Expr, bool), Stop>> 
         at: Span,
     ) -> Result<(Expr, bool), Stop>
         requires { ReadsParts F.pre F.post self.now }
-        ensures { Parses marked (spec.call (run self.now.depth) word at) cursor.old result cursor.new }
+        ensures { Parses marked (spec.call (run self.now.depth) word at)
+            cursor.old result cursor.new }
     {
         let outside = cursor.room;
         cursor.open()?;
@@ -156,32 +159,32 @@ impl<F: Fn(Global, &mut Cursor<'_>, usize, Part) -> Result<(Expr, bool), Stop>> 
         Ok((call_expr(word, args, span_over(at, to)), true))
     }
 
-    /// Parses a name, an element of an array or a call.
+    // Parses a name, an element of an array or a call.
     fn parse_named(&self, cursor: &mut Cursor<'_>) -> Result<(Expr, bool), Stop>
         requires { ReadsParts F.pre F.post self.now }
         ensures { Parses marked (spec.named (run self.now.depth)) cursor.old result cursor.new }
     {
         let (word, at) = cursor.expect_name(self.alloc)?;
         match cursor.peek() {
-            Lead::OpenBracket => self.parse_index(cursor, word, at),
-            Lead::OpenParen => self.parse_call(cursor, word, at),
+            Terminal::OpenBracket => self.parse_index(cursor, word, at),
+            Terminal::OpenParen => self.parse_call(cursor, word, at),
             _ => Ok((name_expr(word, at), true)),
         }
     }
 
-    /// Parses `( expression )`.
+    // Parses `( expression )`.
     fn parse_parenthesized(&self, cursor: &mut Cursor<'_>) -> Result<(Expr, bool), Stop>
         requires { ReadsParts F.pre F.post self.now }
         ensures { Parses marked (spec.paren (run self.now.depth)) cursor.old result cursor.new }
     {
         let outside = cursor.room;
         let from = cursor.open()?;
-        let (inner, _) = self.parse_nested(cursor, Part::Expression)?;
+        let (inner, _) = self.parse_nested(cursor, Nonterminal::Expression)?;
         let to = cursor.expect_close_paren(outside)?;
         Ok((parenthesized(span_over(from, to), inner), true))
     }
 
-    /// Parses a constant.
+    // Parses a constant.
     fn parse_constant(&self, cursor: &mut Cursor<'_>) -> Result<(Expr, bool), Stop>
         requires { ReadsParts F.pre F.post self.now }
         ensures { Parses marked (spec.number (run self.now.depth)) cursor.old result cursor.new }
@@ -190,20 +193,20 @@ impl<F: Fn(Global, &mut Cursor<'_>, usize, Part) -> Result<(Expr, bool), Stop>> 
         Ok((const_expr(value, word, span), true))
     }
 
-    /// Parses a primary expression (C11 6.5.1), an element of an array or a call.
+    // Parses a primary expression (C11 6.5.1), an element of an array or a call.
     fn parse_primary(&self, cursor: &mut Cursor<'_>) -> Result<(Expr, bool), Stop>
         requires { ReadsParts F.pre F.post self.now }
         ensures { Parses marked (spec.primary (run self.now.depth)) cursor.old result cursor.new }
     {
         match cursor.peek() {
-            Lead::Constant => self.parse_constant(cursor),
-            Lead::Name => self.parse_named(cursor),
-            Lead::OpenParen => self.parse_parenthesized(cursor),
+            Terminal::Constant => self.parse_constant(cursor),
+            Terminal::Name => self.parse_named(cursor),
+            Terminal::OpenParen => self.parse_parenthesized(cursor),
             _ => Err(Stop::Unexpected),
         }
     }
 
-    /// Parses a postfix expression (C11 6.5.2).
+    // Parses a postfix expression (C11 6.5.2).
     fn parse_postfix(&self, cursor: &mut Cursor<'_>) -> Result<(Expr, bool), Stop>
         requires { ReadsParts F.pre F.post self.now }
         ensures { Parses marked (spec.postfix (run self.now.depth)) cursor.old result cursor.new }
@@ -218,27 +221,27 @@ impl<F: Fn(Global, &mut Cursor<'_>, usize, Part) -> Result<(Expr, bool), Stop>> 
         }
     }
 
-    /// Parses `++` or `--` and the unary expression after it.
+    // Parses `++` or `--` and the unary expression after it.
     fn parse_prefix_bump(&self, cursor: &mut Cursor<'_>, up: bool) -> Result<(Expr, bool), Stop>
         requires { ReadsParts F.pre F.post self.now }
         ensures { Parses marked (spec.bump (run self.now.depth) up) cursor.old result cursor.new }
     {
         let from = cursor.open()?;
-        let (place, _) = self.parse_nested(cursor, Part::Unary)?;
+        let (place, _) = self.parse_nested(cursor, Nonterminal::Unary)?;
         Ok((prefix_bump_expr(self.alloc, up, from, place)?, true))
     }
 
-    /// Parses an operator and the operand after it (C11 6.5.3.3).
+    // Parses an operator and the operand after it (C11 6.5.3.3).
     fn parse_prefix_operator(&self, cursor: &mut Cursor<'_>, op: UnOp) -> Result<(Expr, bool), Stop>
         requires { ReadsParts F.pre F.post self.now }
         ensures { Parses marked (spec.prefix (run self.now.depth) op) cursor.old result cursor.new }
     {
         let from = cursor.open()?;
-        let (of, _) = self.parse_nested(cursor, Part::Cast)?;
+        let (of, _) = self.parse_nested(cursor, Nonterminal::Cast)?;
         Ok((unary_expr(self.alloc, op, from, of)?, true))
     }
 
-    /// Parses a unary expression (C11 6.5.3).
+    // Parses a unary expression (C11 6.5.3).
     fn parse_unary(&self, cursor: &mut Cursor<'_>) -> Result<(Expr, bool), Stop>
         requires { ReadsParts F.pre F.post self.now }
         ensures { Parses marked (spec.unary (run self.now.depth)) cursor.old result cursor.new }
@@ -252,20 +255,21 @@ impl<F: Fn(Global, &mut Cursor<'_>, usize, Part) -> Result<(Expr, bool), Stop>> 
         }
     }
 
-    /// Parses `( type ) operand`.
+    // Parses `( type ) operand`.
     fn parse_type_cast(&self, cursor: &mut Cursor<'_>) -> Result<(Expr, bool), Stop>
         requires { ReadsParts F.pre F.post self.now }
-        ensures { Parses marked (spec.conversion (run self.now.depth)) cursor.old result cursor.new }
+        ensures { Parses marked (spec.conversion (run self.now.depth))
+            cursor.old result cursor.new }
     {
         let from = cursor.open()?;
         let ty = cursor.expect_type()?;
         let inside = cursor.room;
         cursor.expect_close_paren(inside)?;
-        let (of, _) = self.parse_nested(cursor, Part::Cast)?;
+        let (of, _) = self.parse_nested(cursor, Nonterminal::Cast)?;
         Ok((cast_expr(self.alloc, from, ty, of)?, false))
     }
 
-    /// Parses a cast expression (C11 6.5.4).
+    // Parses a cast expression (C11 6.5.4).
     fn parse_cast(&self, cursor: &mut Cursor<'_>) -> Result<(Expr, bool), Stop>
         requires { ReadsParts F.pre F.post self.now }
         ensures { Parses marked (spec.cast (run self.now.depth)) cursor.old result cursor.new }
@@ -277,7 +281,8 @@ impl<F: Fn(Global, &mut Cursor<'_>, usize, Part) -> Result<(Expr, bool), Stop>> 
         }
     }
 
-    /// Parses the operators of the rank `below + 1` that follow the operand `left`, each with its right operand.
+    // Parses the operators of the rank `below + 1` that follow the operand `left`, each with its
+    // right operand.
     fn parse_binary_rest(
         &self,
         cursor: &mut Cursor<'_>,
@@ -287,7 +292,8 @@ impl<F: Fn(Global, &mut Cursor<'_>, usize, Part) -> Result<(Expr, bool), Stop>> 
     ) -> Result<(Expr, bool), Stop>
         requires low { below < 255 }
         requires nests { ReadsParts F.pre F.post self.now }
-        ensures { Parses marked (spec.operators (run self.now.depth) self.now.turns below (tree left, unary))
+        ensures { Parses marked
+            (spec.operators (run self.now.depth) self.now.turns below (tree left, unary))
             cursor.old result cursor.new }
     {
         for _turn in 0..self.turns {
@@ -295,14 +301,14 @@ impl<F: Fn(Global, &mut Cursor<'_>, usize, Part) -> Result<(Expr, bool), Stop>> 
                 return Ok((left, unary));
             };
             cursor.open()?;
-            let (right, _) = self.parse_nested(cursor, Part::Binary(below))?;
+            let (right, _) = self.parse_nested(cursor, Nonterminal::Binary(below))?;
             left = binary_expr(self.alloc, op, left, right)?;
             unary = false;
         }
         Err(Stop::TooDeep)
     }
 
-    /// Parses operands with operators of at most that rank between them (C11 6.5.5 to 6.5.14).
+    // Parses operands with operators of at most that rank between them (C11 6.5.5 to 6.5.14).
     fn parse_binary(&self, cursor: &mut Cursor<'_>, rank: u8) -> Result<(Expr, bool), Stop>
         requires { ReadsParts F.pre F.post self.now }
         ensures { Parses marked (spec.binary (run self.now.depth) self.now.turns rank)
@@ -315,7 +321,7 @@ impl<F: Fn(Global, &mut Cursor<'_>, usize, Part) -> Result<(Expr, bool), Stop>> 
         self.parse_binary_rest(cursor, rank - 1, left, unary)
     }
 
-    /// Parses `? yes : no` after a test, where a `?` comes next.
+    // Parses `? yes : no` after a test, where a `?` comes next.
     fn parse_conditional_rest(
         &self,
         cursor: &mut Cursor<'_>,
@@ -330,13 +336,13 @@ impl<F: Fn(Global, &mut Cursor<'_>, usize, Part) -> Result<(Expr, bool), Stop>> 
             return Ok((test, unary));
         }
         cursor.open()?;
-        let (yes, _) = self.parse_nested(cursor, Part::Expression)?;
+        let (yes, _) = self.parse_nested(cursor, Nonterminal::Expression)?;
         cursor.expect_colon()?;
-        let (no, _) = self.parse_nested(cursor, Part::Conditional)?;
+        let (no, _) = self.parse_nested(cursor, Nonterminal::Conditional)?;
         Ok((conditional_expr(self.alloc, test, yes, no)?, false))
     }
 
-    /// Parses a conditional expression (C11 6.5.15).
+    // Parses a conditional expression (C11 6.5.15).
     fn parse_conditional(&self, cursor: &mut Cursor<'_>) -> Result<(Expr, bool), Stop>
         requires { ReadsParts F.pre F.post self.now }
         ensures { Parses marked (spec.conditional (run self.now.depth) self.now.turns)
@@ -346,7 +352,8 @@ impl<F: Fn(Global, &mut Cursor<'_>, usize, Part) -> Result<(Expr, bool), Stop>> 
         self.parse_conditional_rest(cursor, test, unary)
     }
 
-    /// Parses an assignment operator and a value after a place, where an assignment operator comes next.
+    // Parses an assignment operator and a value after the left side, where an assignment operator
+    // comes next.
     fn parse_assignment_rest(
         &self,
         cursor: &mut Cursor<'_>,
@@ -359,14 +366,14 @@ impl<F: Fn(Global, &mut Cursor<'_>, usize, Part) -> Result<(Expr, bool), Stop>> 
         match cursor.peek_assignment() {
             Some(op) => {
                 cursor.open()?;
-                let (value, _) = self.parse_nested(cursor, Part::Assignment)?;
+                let (value, _) = self.parse_nested(cursor, Nonterminal::Assignment)?;
                 Ok((assign_expr(self.alloc, op, place, value)?, false))
             }
             None => Ok((place, true)),
         }
     }
 
-    /// Parses an assignment expression (C11 6.5.16).
+    // Parses an assignment expression (C11 6.5.16).
     fn parse_assignment(&self, cursor: &mut Cursor<'_>) -> Result<(Expr, bool), Stop>
         requires { ReadsParts F.pre F.post self.now }
         ensures { Parses marked (spec.assignment (run self.now.depth) self.now.turns)
@@ -380,7 +387,7 @@ impl<F: Fn(Global, &mut Cursor<'_>, usize, Part) -> Result<(Expr, bool), Stop>> 
         }
     }
 
-    /// Parses the commas that follow the operand `left`, each with its right operand.
+    // Parses the commas that follow the operand `left`, each with its right operand.
     fn parse_comma_rest(
         &self,
         cursor: &mut Cursor<'_>,
@@ -396,14 +403,14 @@ impl<F: Fn(Global, &mut Cursor<'_>, usize, Part) -> Result<(Expr, bool), Stop>> 
                 return Ok((left, unary));
             }
             cursor.open()?;
-            let (right, _) = self.parse_nested(cursor, Part::Assignment)?;
+            let (right, _) = self.parse_nested(cursor, Nonterminal::Assignment)?;
             left = comma_expr(self.alloc, left, right)?;
             unary = false;
         }
         Err(Stop::TooDeep)
     }
 
-    /// Parses an expression (C11 6.5.17).
+    // Parses an expression (C11 6.5.17).
     fn parse_expression(&self, cursor: &mut Cursor<'_>) -> Result<(Expr, bool), Stop>
         requires { ReadsParts F.pre F.post self.now }
         ensures { Parses marked (spec.expression (run self.now.depth) self.now.turns)
@@ -413,32 +420,32 @@ impl<F: Fn(Global, &mut Cursor<'_>, usize, Part) -> Result<(Expr, bool), Stop>> 
         self.parse_comma_rest(cursor, left, unary)
     }
 
-    /// Parses an expression of that kind.
-    fn parse(&self, cursor: &mut Cursor<'_>, part: Part) -> Result<(Expr, bool), Stop>
+    // Parses an expression of that kind.
+    fn parse(&self, cursor: &mut Cursor<'_>, part: Nonterminal) -> Result<(Expr, bool), Stop>
         requires { ReadsParts F.pre F.post self.now }
         ensures { Parses marked (spec.step (run self.now.depth) self.now.turns part)
             cursor.old result cursor.new }
     {
         match part {
-            Part::Expression => self.parse_expression(cursor),
-            Part::Assignment => self.parse_assignment(cursor),
-            Part::Conditional => self.parse_conditional(cursor),
-            Part::Binary(rank) => self.parse_binary(cursor, rank),
-            Part::Cast => self.parse_cast(cursor),
-            Part::Unary => self.parse_unary(cursor),
-            Part::Postfix => self.parse_postfix(cursor),
-            Part::Primary => self.parse_primary(cursor),
+            Nonterminal::Expression => self.parse_expression(cursor),
+            Nonterminal::Assignment => self.parse_assignment(cursor),
+            Nonterminal::Conditional => self.parse_conditional(cursor),
+            Nonterminal::Binary(rank) => self.parse_binary(cursor, rank),
+            Nonterminal::Cast => self.parse_cast(cursor),
+            Nonterminal::Unary => self.parse_unary(cursor),
+            Nonterminal::Postfix => self.parse_postfix(cursor),
+            Nonterminal::Primary => self.parse_primary(cursor),
         }
     }
 }
 
-/// Parses an expression of that kind whose openers are nested less than `depth` deep. The flag says whether it is
-/// written as a unary expression, which an assignment operator may follow.
+// Parses an expression of that kind whose openers are nested less than `depth` deep. The flag says
+// whether it is written as a unary expression, which an assignment operator may follow.
 pub fn parse_part(
     alloc: Global,
     cursor: &mut Cursor<'_>,
     depth: usize,
-    part: Part,
+    part: Nonterminal,
 ) -> Result<(Expr, bool), Stop>
     ensures { Parses marked (run depth part) cursor.old result cursor.new }
 {
@@ -455,7 +462,11 @@ pub fn parse_part(
 }
 
 /// Parses an expression of that kind. The room after it is the room before it.
-pub fn parse_expression(alloc: Global, cursor: &mut Cursor<'_>, part: Part) -> Result<Expr, Stop>
+pub fn parse_expression(
+    alloc: Global,
+    cursor: &mut Cursor<'_>,
+    part: Nonterminal,
+) -> Result<Expr, Stop>
     ensures { Parses tree (program.value part) cursor.old result cursor.new }
 {
     let room = cursor.room;

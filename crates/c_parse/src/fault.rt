@@ -7,7 +7,8 @@ use c_tree::NoMemory;
 use std::alloc::AllocFailed;
 use thiserror::Error;
 
-/// Why `parse` has no tree. A place is the first byte of the token that is a fault, or the end of the source.
+/// Why `parse` has no tree. A place is the first byte of the token that is a fault, or the end of
+/// the source.
 #[derive(Clone, Copy, Debug, PartialEq, Eq, Error)]
 #[error("{}", self.words())]
 pub enum ParseFault {

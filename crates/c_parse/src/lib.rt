@@ -1,4 +1,4 @@
-//! The grammar of C programs, read by descent: tokens to trees.
+//! The parser of C programs, by recursive descent: tokens to trees.
 #![tactic(auto)]
 
 mod cursor;

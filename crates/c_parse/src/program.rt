@@ -2,33 +2,34 @@
 
 ghost use Rattle.std.specs.Prelude.{◌≡◌, List, IfOk, IfErr};
 ghost use Rattle.c_lex.specs.Lexemes.{Rise};
+ghost use Rattle.c_tree.specs.Order.{ProgramIn};
 ghost use Rattle.c_tree.specs.Tree as plain;
 ghost use Rattle.c_tree.specs.Views.{outer, program as program_tree};
 ghost use Rattle.c_grammar.specs.Grammar.{Tokens};
-ghost use Rattle.c_grammar.specs.Programs.{Derives};
-ghost use Rattle.c_grammar.specs.Leads as leads;
+ghost use Rattle.c_grammar.specs.Programs.{Derives, max_nesting};
+ghost use Rattle.c_grammar.specs.Terminals as terminals;
 ghost use Rattle.c_grammar.specs.ProgramDescent as spec;
 ghost use Rattle.c_grammar.specs.BegunNesting.{Passes};
 ghost use Rattle.c_grammar.specs.Judge.{good, unexpected_at, too_deep_at, Judged, judge};
 ghost use Rattle.c_parse.specs.Gives as seen;
 ghost use Rattle.c_parse.specs.Gives.{Parses, itself};
 ghost use Rattle.c_parse.specs.Parts as parts;
-ghost use Rattle.c_parse.specs.Faults.{Causes, IsPlaced, Says, place_of};
+ghost use Rattle.c_parse.specs.Results.{IsFirstFault, IsPlaced, MatchesVerdict, place_of};
 
 use crate::cursor::{Cursor, span_over};
 use crate::declaration::{parse_brackets, parse_declaration};
 use crate::fault::{ParseFault, Stop};
 use crate::statement::parse_block_items;
 use crate::tree::{function_definition, parameter, prototype};
-use c_grammar::Lead;
+use c_grammar::Terminal;
 use c_lex::Token;
 use c_tree::{External, Item, Param, Program, Span, Text, Ty};
 use std::alloc::Global;
 
-/// How many openers may be open at a token of a program.
-const ROOM: u8 = 64;
+// How many openers may be open at a token of a program.
+const MAX_NESTING: u8 = 64;
 
-/// Parses a parameter.
+// Parses a parameter.
 fn parse_parameter(alloc: Global, cursor: &mut Cursor<'_>) -> Result<Param, Stop>
     ensures { Parses itself spec.param cursor.old result cursor.new }
 {
@@ -42,9 +43,9 @@ fn parse_parameter(alloc: Global, cursor: &mut Cursor<'_>) -> Result<Param, Stop
     }
 }
 
-/// Parses one parameter, or more with commas between them.
+// Parses one parameter, or more with commas between them.
 fn parse_parameter_list(alloc: Global, cursor: &mut Cursor<'_>) -> Result<Vec<Param>, Stop>
-    ensures { Parses seen.params (parts.comma_list leads.never spec.param)
+    ensures { Parses seen.params (parts.comma_list terminals.never spec.param)
         cursor.old result cursor.new }
 {
     let room = cursor.room;
@@ -61,13 +62,13 @@ fn parse_parameter_list(alloc: Global, cursor: &mut Cursor<'_>) -> Result<Vec<Pa
     Err(Stop::Unexpected)
 }
 
-/// Parses the parameters of a function, of which there may be none.
+// Parses the parameters of a function, of which there may be none.
 fn parse_parameters(alloc: Global, cursor: &mut Cursor<'_>) -> Result<Vec<Param>, Stop>
     ensures { Parses seen.params spec.params cursor.old result cursor.new }
 {
     match cursor.peek() {
-        Lead::CloseParen => Ok(Vec::new(alloc)),
-        Lead::Void => {
+        Terminal::CloseParen => Ok(Vec::new(alloc)),
+        Terminal::Void => {
             cursor.advance()?;
             Ok(Vec::new(alloc))
         }
@@ -75,7 +76,7 @@ fn parse_parameters(alloc: Global, cursor: &mut Cursor<'_>) -> Result<Vec<Param>
     }
 }
 
-/// Parses `( parameters )` after the name of a function.
+// Parses `( parameters )` after the name of a function.
 fn parse_signature(alloc: Global, cursor: &mut Cursor<'_>) -> Result<Vec<Param>, Stop>
     ensures { Parses seen.params spec.signature cursor.old result cursor.new }
 {
@@ -86,7 +87,7 @@ fn parse_signature(alloc: Global, cursor: &mut Cursor<'_>) -> Result<Vec<Param>,
     Ok(params)
 }
 
-/// Parses what a function returns: a type, or `void`.
+// Parses what a function returns: a type, or `void`.
 fn parse_result_type(cursor: &mut Cursor<'_>) -> Result<Option<Ty>, Stop>
     ensures { Parses itself spec.result cursor.old result cursor.new }
 {
@@ -99,7 +100,7 @@ fn parse_result_type(cursor: &mut Cursor<'_>) -> Result<Option<Ty>, Stop>
     }
 }
 
-/// Parses the body of a function: the items between its braces, and the span of the `}`.
+// Parses the body of a function: the items between its braces, and the span of the `}`.
 fn parse_body(alloc: Global, cursor: &mut Cursor<'_>) -> Result<(Vec<Item>, Span), Stop>
     ensures { Parses seen.closed_body spec.body cursor.old result cursor.new }
 {
@@ -110,7 +111,7 @@ fn parse_body(alloc: Global, cursor: &mut Cursor<'_>) -> Result<(Vec<Item>, Span
     Ok((items, to))
 }
 
-/// Parses a prototype or a definition of a function.
+// Parses a prototype or a definition of a function.
 fn parse_function(alloc: Global, cursor: &mut Cursor<'_>) -> Result<External, Stop>
     ensures { Parses outer spec.func cursor.old result cursor.new }
 {
@@ -126,7 +127,7 @@ fn parse_function(alloc: Global, cursor: &mut Cursor<'_>) -> Result<External, St
     }
 }
 
-/// Parses an external declaration: variables, a prototype or a function.
+// Parses an external declaration: variables, a prototype or a function.
 fn parse_external(alloc: Global, cursor: &mut Cursor<'_>) -> Result<External, Stop>
     ensures { Parses outer spec.external cursor.old result cursor.new }
 {
@@ -137,7 +138,7 @@ fn parse_external(alloc: Global, cursor: &mut Cursor<'_>) -> Result<External, St
     Ok(External::Vars(ty, variables))
 }
 
-/// Parses external declarations up to the end of the tokens.
+// Parses external declarations up to the end of the tokens.
 fn parse_externals(alloc: Global, cursor: &mut Cursor<'_>) -> Result<Vec<External>, Stop>
     ensures { Parses seen.outers spec.program cursor.old result cursor.new }
 {
@@ -152,13 +153,13 @@ fn parse_externals(alloc: Global, cursor: &mut Cursor<'_>) -> Result<Vec<Externa
     Err(Stop::Unexpected)
 }
 
-/// Parses a whole program: its tree, or the first fault of the tokens.
+// Parses a whole program: its tree, or the first fault of the tokens.
 fn parse_program(alloc: Global, tokens: &[Token], end: u32) -> Result<Program, ParseFault>
-    ensures { Says end (judge 64 tokens.now) result }
+    ensures { MatchesVerdict end (judge max_nesting tokens.now) result }
 {
     let mut cursor = Cursor {
         rest: tokens,
-        room: ROOM,
+        room: MAX_NESTING,
     };
     match parse_externals(alloc, &mut cursor) {
         Ok(externals) => Ok(Program { externals }),
@@ -168,7 +169,7 @@ fn parse_program(alloc: Global, tokens: &[Token], end: u32) -> Result<Program, P
     }
 }
 
-/// Where the next token begins; at the end of the tokens, where their source ends.
+// Where the next token begins; at the end of the tokens, where their source ends.
 fn fault_place(cursor: &Cursor<'_>, end: u32) -> u32
     ensures { result ≡ place_of end cursor.now.rest.now }
 {
@@ -178,18 +179,23 @@ fn fault_place(cursor: &Cursor<'_>, end: u32) -> u32
     }
 }
 
-/// The one tree of the tokens. `end` is the length of their source.
+/// The one tree of the tokens. `end` is the length of their source. Where the tokens rise in it, the
+/// parts of the tree stand in text order.
 ///
 /// # Errors
-///
-/// `Unexpected` at the first token with which, or with the end of the tokens, nothing is a program; `TooDeep` at the
-/// first token at which the nesting is 65; `NoMemory` where the allocator has no memory left.
+/// `Unexpected` at the first token with which, or with the end of the tokens, nothing is a program;
+/// `TooDeep` at the first token at which the nesting is 65; `NoMemory` where the allocator has no
+/// memory left.
 pub fn parse(alloc: Global, tokens: &[Token], end: u32) -> Result<Program, ParseFault>
-    ensures derived { IfOk result (λ p. Derives 64 tokens.now (program_tree p)) }
-    ensures refused { IfErr result (λ e. Causes end tokens.now e) }
-    ensures accepts { (p : List plain.Outer) → Derives 64 tokens.now p → Says end (good p) result }
-    ensures expects { (b : Tokens) → Judged 64 tokens.now (unexpected_at b) → Says end (unexpected_at b) result }
-    ensures nests { (b : Tokens) → Passes 64 tokens.now b → Says end (too_deep_at b) result }
+    ensures derived { IfOk result (λ p. Derives max_nesting tokens.now (program_tree p)) }
+    ensures ordered { IfOk result (λ p. Rise 0 end tokens.now → ProgramIn 0 end (program_tree p)) }
+    ensures refused { IfErr result (λ e. IsFirstFault end tokens.now e) }
+    ensures accepts { (p : List plain.Outer) → Derives max_nesting tokens.now p
+        → MatchesVerdict end (good p) result }
+    ensures expects { (b : Tokens) → Judged max_nesting tokens.now (unexpected_at b)
+        → MatchesVerdict end (unexpected_at b) result }
+    ensures nests { (b : Tokens) → Passes max_nesting tokens.now b
+        → MatchesVerdict end (too_deep_at b) result }
     ensures placed { Rise 0 end tokens.now → IfErr result (IsPlaced end) }
 {
     parse_program(alloc, tokens, end)

@@ -13,22 +13,22 @@ use crate::fault::Stop;
 use crate::tree::{
     block_stmt, do_stmt, expr_stmt, for_stmt, if_else_stmt, if_stmt, return_stmt, while_stmt,
 };
-use c_grammar::{Lead, Part};
+use c_grammar::{Nonterminal, Terminal};
 use c_tree::{Expr, Init, Item, Span, Stmt, StmtNode};
 use std::alloc::Global;
 
-/// Parses `( expression )`, the condition of a statement.
+// Parses `( expression )`, the condition of a statement.
 fn parse_condition(alloc: Global, cursor: &mut Cursor<'_>) -> Result<Expr, Stop>
     ensures { Parses tree spec.tested cursor.old result cursor.new }
 {
     let outside = cursor.room;
     cursor.expect_open_paren()?;
-    let test = parse_expression(alloc, cursor, Part::Expression)?;
+    let test = parse_expression(alloc, cursor, Nonterminal::Expression)?;
     cursor.expect_close_paren(outside)?;
     Ok(test)
 }
 
-/// Parses an expression, unless it is absent.
+// Parses an expression, unless it is absent.
 fn parse_optional_expression(
     alloc: Global,
     cursor: &mut Cursor<'_>,
@@ -39,29 +39,29 @@ fn parse_optional_expression(
     if absent {
         return Ok(None);
     }
-    let tree = parse_expression(alloc, cursor, Part::Expression)?;
+    let tree = parse_expression(alloc, cursor, Nonterminal::Expression)?;
     Ok(Some(tree))
 }
 
-/// Parses `expression ;` as the first clause of a `for`.
+// Parses `expression ;` as the first clause of a `for`.
 fn parse_for_expression(alloc: Global, cursor: &mut Cursor<'_>) -> Result<Init, Stop>
     ensures { Parses first spec.first_act cursor.old result cursor.new }
 {
-    let tree = parse_expression(alloc, cursor, Part::Expression)?;
+    let tree = parse_expression(alloc, cursor, Nonterminal::Expression)?;
     cursor.expect_semicolon()?;
     Ok(Init::Act(tree))
 }
 
-/// Parses the first clause of a `for`, with its `;`.
+// Parses the first clause of a `for`, with its `;`.
 fn parse_for_init(alloc: Global, cursor: &mut Cursor<'_>) -> Result<Init, Stop>
     ensures { Parses first spec.clause cursor.old result cursor.new }
 {
     match cursor.peek() {
-        Lead::Semicolon => {
+        Terminal::Semicolon => {
             cursor.advance()?;
             Ok(Init::Empty)
         }
-        Lead::Type(_) => {
+        Terminal::Type(_) => {
             let (ty, variables) = parse_declaration(alloc, cursor)?;
             Ok(Init::Vars(ty, variables))
         }
@@ -69,7 +69,7 @@ fn parse_for_init(alloc: Global, cursor: &mut Cursor<'_>) -> Result<Init, Stop>
     }
 }
 
-/// Parses the clauses of a `for`, with their parentheses.
+// Parses the clauses of a `for`, with their parentheses.
 fn parse_for_clauses(
     alloc: Global,
     cursor: &mut Cursor<'_>,
@@ -88,16 +88,16 @@ fn parse_for_clauses(
     Ok((init, test, step))
 }
 
-/// Parses `expression ;`.
+// Parses `expression ;`.
 fn parse_expression_statement(alloc: Global, cursor: &mut Cursor<'_>) -> Result<Stmt, Stop>
     ensures { Parses code spec.act cursor.old result cursor.new }
 {
-    let tree = parse_expression(alloc, cursor, Part::Expression)?;
+    let tree = parse_expression(alloc, cursor, Nonterminal::Expression)?;
     let to = cursor.expect_semicolon()?;
     Ok(expr_stmt(tree, to))
 }
 
-/// Parses `return`, a value or none, and `;`.
+// Parses `return`, a value or none, and `;`.
 fn parse_return(alloc: Global, cursor: &mut Cursor<'_>) -> Result<Stmt, Stop>
     ensures { Parses code spec.give cursor.old result cursor.new }
 {
@@ -108,7 +108,7 @@ fn parse_return(alloc: Global, cursor: &mut Cursor<'_>) -> Result<Stmt, Stop>
     Ok(return_stmt(value, span_over(from, to)))
 }
 
-/// Parses `break ;`.
+// Parses `break ;`.
 fn parse_break(cursor: &mut Cursor<'_>) -> Result<Stmt, Stop>
     ensures { Parses code spec.break cursor.old result cursor.new }
 {
@@ -120,7 +120,7 @@ fn parse_break(cursor: &mut Cursor<'_>) -> Result<Stmt, Stop>
     })
 }
 
-/// Parses `continue ;`.
+// Parses `continue ;`.
 fn parse_continue(cursor: &mut Cursor<'_>) -> Result<Stmt, Stop>
     ensures { Parses code spec.continue cursor.old result cursor.new }
 {
@@ -132,7 +132,7 @@ fn parse_continue(cursor: &mut Cursor<'_>) -> Result<Stmt, Stop>
     })
 }
 
-/// Parses `;`, the empty statement.
+// Parses `;`, the empty statement.
 fn parse_empty(cursor: &mut Cursor<'_>) -> Result<Stmt, Stop>
     ensures { Parses code spec.empty cursor.old result cursor.new }
 {
@@ -143,7 +143,7 @@ fn parse_empty(cursor: &mut Cursor<'_>) -> Result<Stmt, Stop>
     })
 }
 
-/// Parses a statement inside another one: the room for it is one less than the room outside.
+// Parses a statement inside another one: the room for it is one less than the room outside.
 #[cycle(statement)]
 fn parse_inner_statement(alloc: Global, cursor: &mut Cursor<'_>, outside: u8) -> Result<Stmt, Stop>
     ensures { Parses code (parts.inner outside) cursor.old result cursor.new }
@@ -155,13 +155,13 @@ fn parse_inner_statement(alloc: Global, cursor: &mut Cursor<'_>, outside: u8) ->
     parse_statement(alloc, cursor)
 }
 
-/// Parses an item of a block, outside of whose braces there is that room.
+// Parses an item of a block, outside of whose braces there is that room.
 #[cycle(statement)]
 fn parse_block_item(alloc: Global, cursor: &mut Cursor<'_>, outside: u8) -> Result<Item, Stop>
     ensures { Parses seen.alone (spec.item (spec.under outside)) cursor.old result cursor.new }
 {
     match cursor.peek() {
-        Lead::Type(_) => {
+        Terminal::Type(_) => {
             let (ty, variables) = parse_declaration(alloc, cursor)?;
             Ok(Item::Vars(ty, variables))
         }
@@ -191,7 +191,7 @@ pub fn parse_block_items(
     Err(Stop::Unexpected)
 }
 
-/// Parses `{ items }`.
+// Parses `{ items }`.
 #[cycle(statement)]
 fn parse_block(alloc: Global, cursor: &mut Cursor<'_>) -> Result<Stmt, Stop>
     ensures { Parses code (parts.with_inner spec.block) cursor.old result cursor.new }
@@ -203,7 +203,7 @@ fn parse_block(alloc: Global, cursor: &mut Cursor<'_>) -> Result<Stmt, Stop>
     Ok(block_stmt(from, items, to))
 }
 
-/// Parses an `if`, with the `else` that comes next after its first arm.
+// Parses an `if`, with the `else` that comes next after its first arm.
 #[cycle(statement)]
 fn parse_if(alloc: Global, cursor: &mut Cursor<'_>) -> Result<Stmt, Stop>
     ensures { Parses code (parts.with_inner spec.branch) cursor.old result cursor.new }
@@ -222,7 +222,7 @@ fn parse_if(alloc: Global, cursor: &mut Cursor<'_>) -> Result<Stmt, Stop>
     Ok(if_else_stmt(alloc, from, test, yes, no)?)
 }
 
-/// Parses a `while`.
+// Parses a `while`.
 #[cycle(statement)]
 fn parse_while(alloc: Global, cursor: &mut Cursor<'_>) -> Result<Stmt, Stop>
     ensures { Parses code (parts.with_inner spec.while_loop) cursor.old result cursor.new }
@@ -235,8 +235,8 @@ fn parse_while(alloc: Global, cursor: &mut Cursor<'_>) -> Result<Stmt, Stop>
     Ok(while_stmt(alloc, from, test, body)?)
 }
 
-/// Parses `while ( expression ) ;` after the body of a `do`, outside of which there is that room: the condition, and
-/// the span of the `;`.
+// Parses `while ( expression ) ;` after the body of a `do`, outside of which there is that room:
+// the condition, and the span of the `;`.
 fn parse_do_end(alloc: Global, cursor: &mut Cursor<'_>, outside: u8) -> Result<(Expr, Span), Stop>
     ensures { Parses seen.ended (parts.do_end outside) cursor.old result cursor.new }
 {
@@ -247,7 +247,7 @@ fn parse_do_end(alloc: Global, cursor: &mut Cursor<'_>, outside: u8) -> Result<(
     Ok((test, to))
 }
 
-/// Parses a `do`.
+// Parses a `do`.
 #[cycle(statement)]
 fn parse_do(alloc: Global, cursor: &mut Cursor<'_>) -> Result<Stmt, Stop>
     ensures { Parses code (parts.with_inner spec.do_loop) cursor.old result cursor.new }
@@ -259,7 +259,7 @@ fn parse_do(alloc: Global, cursor: &mut Cursor<'_>) -> Result<Stmt, Stop>
     Ok(do_stmt(alloc, body, test, span_over(from, to))?)
 }
 
-/// Parses a `for`.
+// Parses a `for`.
 #[cycle(statement)]
 fn parse_for(alloc: Global, cursor: &mut Cursor<'_>) -> Result<Stmt, Stop>
     ensures { Parses code (parts.with_inner spec.for_loop) cursor.old result cursor.new }
@@ -272,21 +272,21 @@ fn parse_for(alloc: Global, cursor: &mut Cursor<'_>) -> Result<Stmt, Stop>
     Ok(for_stmt(alloc, from, init, test, step, body)?)
 }
 
-/// Parses a statement.
+// Parses a statement.
 #[cycle(statement)]
 fn parse_statement(alloc: Global, cursor: &mut Cursor<'_>) -> Result<Stmt, Stop>
     ensures { Parses code (parts.with_inner spec.statement) cursor.old result cursor.new }
 {
     match cursor.peek() {
-        Lead::Semicolon => parse_empty(cursor),
-        Lead::OpenBrace => parse_block(alloc, cursor),
-        Lead::If => parse_if(alloc, cursor),
-        Lead::While => parse_while(alloc, cursor),
-        Lead::Do => parse_do(alloc, cursor),
-        Lead::For => parse_for(alloc, cursor),
-        Lead::Return => parse_return(alloc, cursor),
-        Lead::Break => parse_break(cursor),
-        Lead::Continue => parse_continue(cursor),
+        Terminal::Semicolon => parse_empty(cursor),
+        Terminal::OpenBrace => parse_block(alloc, cursor),
+        Terminal::If => parse_if(alloc, cursor),
+        Terminal::While => parse_while(alloc, cursor),
+        Terminal::Do => parse_do(alloc, cursor),
+        Terminal::For => parse_for(alloc, cursor),
+        Terminal::Return => parse_return(alloc, cursor),
+        Terminal::Break => parse_break(cursor),
+        Terminal::Continue => parse_continue(cursor),
         _ => parse_expression_statement(alloc, cursor),
     }
 }

@@ -2,13 +2,12 @@
 
 ghost use Rattle.std.specs.Prelude.{◌≡◌, map, IfOk, Some, None, true, false};
 ghost use Rattle.c_tree.specs.declared.stmt.Slot.TheVariants.{Unset};
-ghost use Rattle.c_tree.specs.Parts.{span_of};
+ghost use Rattle.c_tree.specs.Parts.{span_of, span_of_code};
 ghost use Rattle.c_tree.specs.Tree as plain;
 ghost use Rattle.c_tree.specs.Views.{tree, tree_option, initial, variable, first, code, body_of, outer};
 ghost use Rattle.c_grammar.specs.Grammar as grammar;
 ghost use Rattle.c_grammar.specs.Grammar.{over};
 ghost use Rattle.c_grammar.specs.Programs as programs;
-ghost use Rattle.c_grammar.specs.Programs.{code_span};
 ghost use Rattle.c_parse.specs.Gives.{given};
 
 use crate::cursor::span_over;
@@ -75,9 +74,10 @@ pub fn parenthesized(span: Span, inner: Expr) -> Expr
     }
 }
 
-/// `++` or `--` before a place.
+/// `++` or `--` before an operand.
 pub fn prefix_bump_expr(alloc: Global, up: bool, from: Span, place: Expr) -> Result<Expr, NoMemory>
-    ensures { IfOk result (λ e. tree e ≡ plain.bump true up (tree place) (over from (span_of (tree place)))) }
+    ensures { IfOk result (λ e.
+        tree e ≡ plain.bump true up (tree place) (over from (span_of (tree place)))) }
 {
     let span = span_over(from, place.span);
     Ok(Expr {
@@ -90,9 +90,10 @@ pub fn prefix_bump_expr(alloc: Global, up: bool, from: Span, place: Expr) -> Res
     })
 }
 
-/// `++` or `--` after a place.
+/// `++` or `--` after an operand.
 pub fn postfix_bump_expr(alloc: Global, up: bool, place: Expr, to: Span) -> Result<Expr, NoMemory>
-    ensures { IfOk result (λ e. tree e ≡ plain.bump false up (tree place) (over (span_of (tree place)) to)) }
+    ensures { IfOk result (λ e.
+        tree e ≡ plain.bump false up (tree place) (over (span_of (tree place)) to)) }
 {
     let span = span_over(place.span, to);
     Ok(Expr {
@@ -234,7 +235,7 @@ pub fn block_stmt(from: Span, items: Vec<Item>, to: Span) -> Stmt
 /// `if (test) yes`
 pub fn if_stmt(alloc: Global, from: Span, test: Expr, yes: Stmt) -> Result<Stmt, NoMemory>
     ensures { IfOk result (λ s.
-        code s ≡ plain.if_then (tree test) (code yes) (over from (code_span (code yes)))) }
+        code s ≡ plain.if_then (tree test) (code yes) (over from (span_of_code (code yes)))) }
 {
     let span = span_over(from, yes.span);
     Ok(Stmt {
@@ -256,7 +257,7 @@ pub fn if_else_stmt(
     no: Stmt,
 ) -> Result<Stmt, NoMemory>
     ensures { IfOk result (λ s.
-        code s ≡ plain.if_else (tree test) (code yes) (code no) (over from (code_span (code no)))) }
+        code s ≡ plain.if_else (tree test) (code yes) (code no) (over from (span_of_code (code no)))) }
 {
     let span = span_over(from, no.span);
     Ok(Stmt {
@@ -272,7 +273,7 @@ pub fn if_else_stmt(
 /// `while (test) body`
 pub fn while_stmt(alloc: Global, from: Span, test: Expr, body: Stmt) -> Result<Stmt, NoMemory>
     ensures { IfOk result (λ s.
-        code s ≡ plain.while (tree test) (code body) (over from (code_span (code body)))) }
+        code s ≡ plain.while (tree test) (code body) (over from (span_of_code (code body)))) }
 {
     let span = span_over(from, body.span);
     Ok(Stmt {
@@ -308,7 +309,7 @@ pub fn for_stmt(
 ) -> Result<Stmt, NoMemory>
     ensures { IfOk result (λ s.
         code s ≡ plain.for (first init) (tree_option test) (tree_option step) (code body)
-        (over from (code_span (code body)))) }
+        (over from (span_of_code (code body)))) }
 {
     let span = span_over(from, body.span);
     Ok(Stmt {
@@ -366,7 +367,8 @@ pub fn function_definition(
     params: Vec<Param>,
     items: Vec<Item>,
 ) -> External
-    ensures { outer result ≡ programs.function word span ret params.items (Some (body_of items.items)) }
+    ensures { outer result
+        ≡ programs.function word span ret params.items (Some (body_of items.items)) }
 {
     External::Func(Func {
         word,

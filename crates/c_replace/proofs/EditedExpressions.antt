@@ -7,7 +7,7 @@ use Rattle.c_lex.specs.declared.token.TokenKind.TheVariants as kind
 use Rattle.c_lex.specs.declared.token.Keyword.{Keyword}
 use Rattle.c_lex.specs.declared.token.Punct.{Punct}
 use Rattle.c_lex.specs.declared.token.Punct.TheVariants as mark
-use Rattle.c_lex.specs.Lexemes.{Rise, kinds, Covers}
+use Rattle.c_lex.specs.Lexemes.{Rise, kinds, Covers, is_other}
 use Rattle.c_tree.specs.declared.expr.BinOp.{BinOp}
 use Rattle.c_tree.specs.declared.place.Loc.{Loc}
 use Rattle.c_tree.specs.declared.place.LocKind.TheVariants.{Right}
@@ -19,11 +19,11 @@ use Rattle.c_tree.specs.Tree as tree
 use Rattle.c_tree.specs.Tree.{Tree, bare, bare_args}
 use Rattle.c_location.specs.Locations.{Located, expression, right_side, in_tree, in_args, assigned as assigned_locs, stands, is_at}
 use Rattle.c_location.specs.Rewrites.{Rewrite, rewrite, at_assigned, at_tree, to_tree, to_args}
-use Rattle.c_grammar.specs.declared.part.Part.{Part}
-use Rattle.c_grammar.specs.declared.part.Part.TheVariants.{Expression, Assignment, Conditional, Binary, Cast, Unary, Primary}
+use Rattle.c_grammar.specs.declared.nonterminal.Nonterminal.{Nonterminal}
+use Rattle.c_grammar.specs.declared.nonterminal.Nonterminal.TheVariants.{Expression, Assignment, Conditional, Binary, Cast, Unary, Primary}
 use Rattle.c_grammar.specs.Operators.{type_word, weakest, assignment_operator}
 use Rattle.c_grammar.specs.Grammar.{Tokens, over, wrapped, Given, by_value, by_format, by_address, args, Reads, Argument, Arguments}
-use Rattle.c_replace.specs.Shapes.{Shaped, is_other, is_settled, Own}
+use Rattle.c_replace.specs.Shapes.{Shaped, is_settled, Own}
 use Rattle.c_replace.specs.Forms.{Formed, bare_given}
 use Rattle.c_replace.specs.Replacing.{Fits}
 use Rattle.c_replace.proofs.LocationKinds.{stands_is}
@@ -107,11 +107,11 @@ args_locs (by_address t) gs = refl
 
 module _ (l : Loc) where
   -- all tokens of these kinds are the expression, rewritten
-  abbrev pub TreeKinds : Part → Tree → List TokenKind → Rewrite → Type 0
+  abbrev pub TreeKinds : Nonterminal → Tree → List TokenKind → Rewrite → Type 0
   TreeKinds N t ks how = Shaped N ks (bare (to_tree l how t))
 
   -- the own tokens of an expression: it holds the location, or stays what it is
-  pub record EditedTree (N : Part) (a b : Tokens) (t : Tree) : Type 0 where
+  pub record EditedTree (N : Nonterminal) (a b : Tokens) (t : Tree) : Type 0 where
     pub own : Tokens
     pub splits : a ≡ own ++ b
     pub edited : (lo hi : ℕ) → Rise lo hi own → Edited l (Before l) (TreeKinds N t) (in_tree t) own
@@ -123,7 +123,7 @@ module _ (l : Loc) where
   -- ---- forms
 
   -- the same tokens as another kind
-  raise : {N M : Part} {a b : Tokens} {t : Tree} → EditedTree N a b t
+  raise : {N M : Nonterminal} {a b : Tokens} {t : Tree} → EditedTree N a b t
       → ((ks : List TokenKind) (u : Tree) → Shaped N ks u → Shaped M ks u) → EditedTree M a b t
   raise {t = t} o f = record {
     own = o.own;
@@ -133,7 +133,7 @@ module _ (l : Loc) where
   }
 
   -- a token before
-  first : {N M : Part} {a b : Tokens} {t : Tree} (k : TokenKind) (s : Span) (u : Tree)
+  first : {N M : Nonterminal} {a b : Tokens} {t : Tree} (k : TokenKind) (s : Span) (u : Tree)
       → find (is_at l) (in_tree u) ≡ find (is_at l) (in_tree t) → EditedTree N a b t
       → ((ks : List TokenKind) (how : Rewrite) → TreeKinds N t ks how → TreeKinds M u (k ∷ ks) how)
       → EditedTree M ((k, s) ∷ a) b u
@@ -145,7 +145,7 @@ module _ (l : Loc) where
   }
 
   -- a token after
-  after : {N M : Part} {a b : Tokens} {t : Tree} (k : TokenKind) (s : Span) (u : Tree)
+  after : {N M : Nonterminal} {a b : Tokens} {t : Tree} (k : TokenKind) (s : Span) (u : Tree)
       → find (is_at l) (in_tree u) ≡ find (is_at l) (in_tree t) → EditedTree N a ((k, s) ∷ b) t
       → ((ks : List TokenKind) (how : Rewrite) → TreeKinds N t ks how
       → TreeKinds M u (ks ++ k ∷ []) how) → EditedTree M a b u
@@ -157,7 +157,7 @@ module _ (l : Loc) where
   }
 
   -- a token between two parts
-  pair : {N K M : Part} {a b c : Tokens} {t u : Tree} (k : TokenKind) (s : Span) (v : Tree)
+  pair : {N K M : Nonterminal} {a b c : Tokens} {t u : Tree} (k : TokenKind) (s : Span) (v : Tree)
       → in_tree v ≡ in_tree t ++ in_tree u → EditedTree N a ((k, s) ∷ b) t → EditedTree K b c u
       → ((ks js : List TokenKind) (how : Rewrite) → TreeKinds N t ks how → TreeKinds K u js how
       → TreeKinds M v (ks ++ k ∷ js) how) → EditedTree M a c v
@@ -175,7 +175,7 @@ module _ (l : Loc) where
   -- ---- right sides
 
   -- all tokens of these kinds are the right side, rewritten
-  abbrev pub SideKinds : Part → Tree → List TokenKind → Rewrite → Type 0
+  abbrev pub SideKinds : Nonterminal → Tree → List TokenKind → Rewrite → Type 0
   SideKinds N t ks how = Shaped N ks (bare (at_tree l how Right t (to_tree l how t)))
 
   -- nothing stands before the location in the part, or what may stand before one
@@ -188,13 +188,13 @@ module _ (l : Loc) where
   begin x h q (inr b) c = settled_append x q (b c)
 
   -- the own tokens are those that the text covers
-  pub covers_own : {N : Part} {a b : Tokens} {t : Tree} → Own N a b t → (o : EditedTree N a b t)
+  pub covers_own : {N : Nonterminal} {a b : Tokens} {t : Tree} → Own N a b t → (o : EditedTree N a b t)
       → Covers o.own (span_of t)
   covers_own {b = b} {t = t} w o = subst (λ q. Covers q (span_of t))
       (prefix_same w.own o.own b (sym w.splits ∙ o.splits)) w.covers
 
   -- the same of an expression by itself
-  pub owned_as : {N : Part} {a b : Tokens} {t : Tree} → Own N a b t → (o : EditedTree N a b t)
+  pub owned_as : {N : Nonterminal} {a b : Tokens} {t : Tree} → Own N a b t → (o : EditedTree N a b t)
       → Shaped N (kinds o.own) (bare t) × (is_settled o.own ≡ true)
   owned_as {N} {b = b} {t = t} w o =
       let same = prefix_same w.own o.own b (sym w.splits ∙ o.splits) in
@@ -202,7 +202,7 @@ module _ (l : Loc) where
       (shaped, subst (λ q. is_settled q ≡ true) same w.settled)
 
   -- a right side, by whether it is the location
-  side_by : {N : Part} {a b : Tokens} {t : Tree} (w : Own N a b t) (o : EditedTree N a b t)
+  side_by : {N : Nonterminal} {a b : Tokens} {t : Tree} (w : Own N a b t) (o : EditedTree N a b t)
       → ((ks : List TokenKind) (u : Tree) → Shaped Assignment ks u → Shaped N ks u)
       → ((ks : List TokenKind) (u : Tree) → Shaped N ks u → Shaped Expression ks u)
       → (x : Bool) → stands l Right (span_of t) ≡ x → (lo hi : ℕ) → Rise lo hi o.own
@@ -235,7 +235,7 @@ module _ (l : Loc) where
       (sym e) x) (o.edited lo hi r)
 
   -- a right side that is the location, or holds it, or stays
-  pub side : {N : Part} {a b : Tokens} {t : Tree} (w : Own N a b t) (o : EditedTree N a b t)
+  pub side : {N : Nonterminal} {a b : Tokens} {t : Tree} (w : Own N a b t) (o : EditedTree N a b t)
       → ((ks : List TokenKind) (u : Tree) → Shaped Assignment ks u → Shaped N ks u)
       → ((ks : List TokenKind) (u : Tree) → Shaped N ks u → Shaped Expression ks u) → (lo hi : ℕ)
       → Rise lo hi o.own
@@ -412,7 +412,7 @@ module _ (l : Loc) where
 
   mutual
     -- what is read holds the location, or stays what it is
-    pub edited_tree : {N : Part} {r m : ℕ} {a b : Tokens} {t : Tree} → Reads N r a m b t
+    pub edited_tree : {N : Nonterminal} {r m : ℕ} {a b : Tokens} {t : Tree} → Reads N r a m b t
         → EditedTree N a b t
     edited_tree (Reads.constant {n = n} {w = w} {s = s}) = record {
       own = (kind.Const n w, s) ∷ [];

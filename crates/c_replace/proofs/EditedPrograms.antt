@@ -14,9 +14,9 @@ use Rattle.c_tree.specs.Tree as tree
 use Rattle.c_tree.specs.Tree.{Tree, Code, Body, Outer, bare, bare_option, bare_first, bare_code, bare_body, bare_outer, bare_program, no_span}
 use Rattle.c_location.specs.Locations.{Located, expression, statement as statement_part, guard, condition, in_tree, in_condition, in_test, in_step, in_value, in_first, in_code, in_body, in_outer, located, stands, is_at}
 use Rattle.c_location.specs.Rewrites.{Rewrite, rewrite, at_code, to_tree, to_condition, to_test, to_value, to_first, to_code, to_body, to_outer, rewritten}
-use Rattle.c_grammar.specs.declared.part.Part.TheVariants.{Expression}
+use Rattle.c_grammar.specs.declared.nonterminal.Nonterminal.TheVariants.{Expression}
 use Rattle.c_grammar.specs.Grammar.{Tokens, over, Reads}
-use Rattle.c_grammar.specs.Programs.{code_span, function, Clause, Optional, Statement, Items, External, Derives}
+use Rattle.c_grammar.specs.Programs.{function, Clause, Optional, Statement, Items, External, Derives}
 use Rattle.c_replace.specs.Shapes.{Shaped, Own, is_settled}
 use Rattle.c_replace.specs.Forms.{Formed, ShapedProgram}
 use Rattle.c_replace.specs.Replacing.{Fits}
@@ -155,7 +155,7 @@ module _ (l : Loc) where
   record EditedCode (o : Bool) (a b : Tokens) (c : Code) : Type 0 where
     own : Tokens
     splits : a ≡ own ++ b
-    covers : Covers own (code_span c)
+    covers : Covers own (span_of_code c)
     edited : (lo hi : ℕ) → Rise lo hi own → Edited l (Before l) (CodeKinds o c) (in_code c) own
 
   -- all tokens of these kinds are the items, rewritten
@@ -316,7 +316,7 @@ module _ (l : Loc) where
               λ ks is how. Formed (Statement wide) bare_code
               (kind.Word key.If ∷ kind.Punct mark.OpenParen ∷
               (ks ++ kind.Punct mark.CloseParen ∷ is))
-              (bare_code (to_code l how (tree.if_else t y z (over s (code_span z))))) in
+              (bare_code (to_code l how (tree.if_else t y z (over s (span_of_code z))))) in
               let both : Edited l (Before l) (λ is how. (ks : List TokenKind) → TestKinds t ks how
               → whole ks is how) (in_code y ++ in_code z) arms =
               two_last [] g.own ((kind.Word key.Else, q) ∷ []) w.own arms refl (λ q h. h)
@@ -398,7 +398,7 @@ module _ (l : Loc) where
               λ is ks js how. Formed (Statement wide) bare_code
               (kind.Word key.For ∷ kind.Punct mark.OpenParen ∷
               (is ++ (ks ++ kind.Punct mark.Semicolon ∷ js)))
-              (bare_code (to_code l how (tree.for i t u y (over s (code_span y))))) in
+              (bare_code (to_code l how (tree.for i t u y (over s (span_of_code y))))) in
               let bodies : Edited l (Before l) (λ js how. (is ks : List TokenKind)
               → Formed Clause bare_first is (bare_first (to_first l how i)) → OptionKinds t ks how
               → whole is ks js how) (in_step u ++ in_code y) rest =
@@ -409,7 +409,7 @@ module _ (l : Loc) where
               let tests : Edited l (Alone l) (λ ks how. (is : List TokenKind)
               → Formed Clause bare_first is (bare_first (to_first l how i))
               → Formed (Statement wide) bare_code (kind.Word key.For ∷ kind.Punct mark.OpenParen ∷
-              (is ++ ks)) (bare_code (to_code l how (tree.for i t u y (over s (code_span y))))))
+              (is ++ ks)) (bare_code (to_code l how (tree.for i t u y (over s (span_of_code y))))))
               (in_test t ++ (in_step u ++ in_code y)) tail =
               two_last [] o.own ((kind.Punct mark.Semicolon, e) ∷ []) rest tail refl (λ z h. h)
               (λ z h. inr (further l (o.own ++ (kind.Punct mark.Semicolon, e) ∷ []) z h))

@@ -11,22 +11,22 @@ use Rattle.c_tree.specs.declared.stmt.Shape.TheVariants.{Scalar, Array}
 use Rattle.c_tree.specs.declared.program.Param.{Param}
 use Rattle.c_tree.specs.Tree as tree
 use Rattle.c_tree.specs.Tree.{Tree, Initial, Variable, First, Code, Body, Outer, bare, bare_option, bare_initial, bare_variable, bare_first, bare_param, no_span}
-use Rattle.c_grammar.specs.declared.part.Part.{Part}
-use Rattle.c_grammar.specs.declared.part.Part.TheVariants.{Expression, Assignment}
+use Rattle.c_grammar.specs.declared.nonterminal.Nonterminal.{Nonterminal}
+use Rattle.c_grammar.specs.declared.nonterminal.Nonterminal.TheVariants.{Expression, Assignment}
 use Rattle.c_grammar.specs.Operators.{type_word}
 use Rattle.c_grammar.specs.Grammar.{Tokens, over, Reads}
 use Rattle.c_grammar.specs.Programs.{variable, parameter, Length, Elements, Declarator, Declarators, Vars, Clause, Optional, Parameter, Parameters, Signature}
 use Rattle.c_replace.specs.Shapes.{Shaped}
 use Rattle.c_replace.specs.Forms.{Formed}
 use Rattle.c_replace.proofs.Splits.{at_suc, headed}
-use Rattle.c_replace.proofs.Ends.{got_end, got_then}
+use Rattle.c_replace.proofs.NextToken.{got_end, got_then}
 
 -- the room after an expression is of no use to what holds it
-abbrev pub ReadsIn : Part → ℕ → Tokens → Tokens → Tree → Type 0
+abbrev pub ReadsIn : Nonterminal → ℕ → Tokens → Tokens → Tree → Type 0
 ReadsIn N r a b t = (m : ℕ) × Reads N r a m b t
 
 -- tokens of the kinds of an expression begin with the expression
-pub expr : {N : Part} {ks : List TokenKind} {t : Tree} → Shaped N ks t → Formed (ReadsIn N) bare ks t
+pub expr : {N : Nonterminal} {ks : List TokenKind} {t : Tree} → Shaped N ks t → Formed (ReadsIn N) bare ks t
 expr x = record {
   each = λ ls a e.
       let g = x.each ls a e in

@@ -1,5 +1,5 @@
 pub mod Splits
-pub mod Ends
+pub mod NextToken
 pub mod Shapes
 pub mod Owned
 pub mod Forms

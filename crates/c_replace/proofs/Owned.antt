@@ -13,11 +13,11 @@ use Rattle.c_grammar.specs.Operators.{type_word, weakest, bump_operator}
 use Rattle.c_tree.specs.Parts.{span_of}
 use Rattle.c_tree.specs.Tree as tree
 use Rattle.c_tree.specs.Tree.{Tree, Args, bare, bare_args}
-use Rattle.c_grammar.specs.declared.part.Part.{Part}
-use Rattle.c_grammar.specs.declared.part.Part.TheVariants.{Expression, Conditional, Binary, Cast, Primary}
+use Rattle.c_grammar.specs.declared.nonterminal.Nonterminal.{Nonterminal}
+use Rattle.c_grammar.specs.declared.nonterminal.Nonterminal.TheVariants.{Expression, Conditional, Binary, Cast, Primary}
 use Rattle.c_grammar.specs.Grammar.{Tokens, over, wrapped, Given, args, Reads, Argument, Arguments}
-use Rattle.c_lex.specs.Lexemes.{kinds, Covers}
-use Rattle.c_replace.specs.Shapes.{Shaped, is_other, is_no_question, is_whole, Own}
+use Rattle.c_lex.specs.Lexemes.{kinds, Covers, is_other, is_no_question}
+use Rattle.c_replace.specs.Shapes.{Shaped, is_whole, Own}
 use Rattle.c_replace.specs.Forms.{Formed, OwnPart, bare_given}
 use Rattle.c_replace.proofs.Splits.{kinds_append, covers_one, covers_join, covers_before, settled_append}
 use Rattle.c_replace.proofs.Shapes as shape
@@ -47,7 +47,7 @@ bump_other _ up e = refl
 -- ---- forms
 
 -- the same tokens for a looser part
-raise : {N M : Part} {a b : Tokens} {t : Tree} → Own N a b t
+raise : {N M : Nonterminal} {a b : Tokens} {t : Tree} → Own N a b t
     → ((ks : List TokenKind) → Shaped N ks (bare t) → Shaped M ks (bare t)) → Own M a b t
 raise o f = record {
   own = o.own;
@@ -59,7 +59,7 @@ raise o f = record {
 }
 
 -- a token before
-first : {N M : Part} {a b : Tokens} {t : Tree} (k : TokenKind) (s : Span) (u : Tree)
+first : {N M : Nonterminal} {a b : Tokens} {t : Tree} (k : TokenKind) (s : Span) (u : Tree)
     → span_of u ≡ over s (span_of t) → is_whole u ≡ true → Own N a b t
     → ((ks : List TokenKind) → Shaped N ks (bare t) → Shaped M (k ∷ ks) (bare u))
     → Own M ((k, s) ∷ a) b u
@@ -73,7 +73,7 @@ first k s u e w o f = record {
 }
 
 -- a token after
-after : {N M : Part} {a b : Tokens} {t : Tree} (k : TokenKind) (s : Span) (u : Tree) → is_other k ≡ true
+after : {N M : Nonterminal} {a b : Tokens} {t : Tree} (k : TokenKind) (s : Span) (u : Tree) → is_other k ≡ true
     → span_of u ≡ over (span_of t) s → is_whole u ≡ true → Own N a ((k, s) ∷ b) t
     → ((ks : List TokenKind) → Shaped N ks (bare t) → Shaped M (ks ++ k ∷ []) (bare u)) → Own M a b u
 after {M = M} {b = b} k s u i e w o f = record {
@@ -87,7 +87,7 @@ after {M = M} {b = b} k s u i e w o f = record {
 }
 
 -- a token between two parts
-pair : {N K M : Part} {a b c : Tokens} {t u : Tree} (k : TokenKind) (s : Span) (v : Tree)
+pair : {N K M : Nonterminal} {a b c : Tokens} {t u : Tree} (k : TokenKind) (s : Span) (v : Tree)
     → span_of v ≡ over (span_of t) (span_of u) → is_whole v ≡ true
     → Own N a ((k, s) ∷ b) t → Own K b c u →
     ((ks ls : List TokenKind) → Shaped N ks (bare t) → Shaped K ls (bare u)
@@ -226,7 +226,7 @@ own_call {a} {b} {w} {s} {o} {e} {gs} x = record {
 
 mutual
   -- what is read has tokens of its own
-  pub owned : {N : Part} {r m : ℕ} {a b : Tokens} {t : Tree} → Reads N r a m b t → Own N a b t
+  pub owned : {N : Nonterminal} {r m : ℕ} {a b : Tokens} {t : Tree} → Reads N r a m b t → Own N a b t
   owned (Reads.constant {n = n} {w = w} {s = s}) = record {
     own = (kind.Const n w, s) ∷ [];
     splits = refl;

@@ -18,7 +18,7 @@ use Rattle.c_location.specs.Laws.{NothingElsewhere}
 use Rattle.c_location.specs.Locations as part
 use Rattle.c_location.specs.OnePlace.{IsOf, NamesOnePlace}
 use Rattle.c_location.specs.Rewrites.{Rewrite, rewrite}
-use Rattle.c_grammar.specs.declared.part.Part.TheVariants.{Expression, Assignment, Binary}
+use Rattle.c_grammar.specs.declared.nonterminal.Nonterminal.TheVariants.{Expression, Assignment, Binary}
 use Rattle.c_grammar.specs.Operators.{weakest}
 use Rattle.c_grammar.specs.Grammar.{Tokens}
 use Rattle.c_grammar.specs.Programs.{Statement, Derives}

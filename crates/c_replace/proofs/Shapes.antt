@@ -13,20 +13,20 @@ use Rattle.c_tree.specs.declared.stmt.Ty.{Ty}
 use Rattle.c_tree.specs.Parts.{span_of}
 use Rattle.c_tree.specs.Tree as tree
 use Rattle.c_tree.specs.Tree.{Tree, bare, bare_args, no_span}
-use Rattle.c_grammar.specs.declared.part.Part.{Part}
-use Rattle.c_grammar.specs.declared.part.Part.TheVariants.{Expression, Assignment, Conditional, Binary, Cast, Unary, Postfix, Primary}
+use Rattle.c_grammar.specs.declared.nonterminal.Nonterminal.{Nonterminal}
+use Rattle.c_grammar.specs.declared.nonterminal.Nonterminal.TheVariants.{Expression, Assignment, Conditional, Binary, Cast, Unary, Postfix, Primary}
 use Rattle.c_grammar.specs.Operators.{binary_operator, rank, weakest, prefix_operator, bump_operator, assignment_operator, type_word}
 use Rattle.c_grammar.specs.Grammar.{Tokens, over, wrapped, prefixed, joined, chosen, assigned, followed, Given, by_value, by_format, by_address, args, Reads, Argument, Arguments}
 use Rattle.c_lex.specs.Lexemes.{kinds}
 use Rattle.c_replace.specs.Shapes.{GotTree, Shaped}
 use Rattle.c_replace.specs.Forms.{Formed, bare_given}
 use Rattle.c_replace.proofs.Splits.{at_suc, headed}
-use Rattle.c_replace.proofs.Ends.{got_end, got_then}
+use Rattle.c_replace.proofs.NextToken.{got_end, got_then}
 
 -- ---- forms of productions
 
 -- the same expression as one of another kind
-up : {N M : Part} {ks : List TokenKind} {t : Tree}
+up : {N M : Nonterminal} {ks : List TokenKind} {t : Tree}
     → ((r m : ℕ) (a b : Tokens) (u : Tree) → Reads N r a m b u → Reads M r a m b u)
     → Shaped N ks t → Shaped M ks t
 up f x = record {
@@ -43,11 +43,11 @@ up f x = record {
 }
 
 -- a token before a part
-lead : {N M : Part} {ks : List TokenKind} {t : Tree} (k : TokenKind) (u : Tree) (f : Span → Tree → Tree)
+terminal : {N M : Nonterminal} {ks : List TokenKind} {t : Tree} (k : TokenKind) (u : Tree) (f : Span → Tree → Tree)
     → ((s : Span) (r m : ℕ) (a b : Tokens) (v : Tree) → Reads N r a m b v
     → Reads M (suc r) ((k, s) ∷ a) m b (f s v))
     → ((s : Span) (v : Tree) → bare v ≡ t → bare (f s v) ≡ u) → Shaped N ks t → Shaped M (k ∷ ks) u
-lead {N} {M} {ks} k u f step same x = record {
+terminal {N} {M} {ks} k u f step same x = record {
   each = λ ls a e.
       let h = headed a k (ks ++ ls) e in
       let g = x.each ls h.tail h.tail_kinds in
@@ -69,7 +69,7 @@ lead {N} {M} {ks} k u f step same x = record {
 }
 
 -- a token after a part
-trail : {N M : Part} {ks : List TokenKind} {t : Tree} (k : TokenKind) (u : Tree)
+trail : {N M : Nonterminal} {ks : List TokenKind} {t : Tree} (k : TokenKind) (u : Tree)
     (f : Span → Tree → Tree)
     → ((s : Span) (r m : ℕ) (a b : Tokens) (v : Tree) → Reads N r a m ((k, s) ∷ b) v
     → Reads M r a m b (f s v))
@@ -89,7 +89,7 @@ trail {ks = ks} k u f step same x = record {
 }
 
 -- a token between two parts, which takes room
-between : {N K M : Part} {ks js : List TokenKind} {t v : Tree} (k : TokenKind) (u : Tree)
+between : {N K M : Nonterminal} {ks js : List TokenKind} {t v : Tree} (k : TokenKind) (u : Tree)
     (f : Tree → Tree → Tree)
     → ((s : Span) (r m n : ℕ) (a b c : Tokens) (x y : Tree) → Reads N r a (suc m) ((k, s) ∷ b) x
     → Reads K m b n c y → Reads M r a n c (f x y))
@@ -321,13 +321,13 @@ unary x = up (λ r m a b u d. Reads.unary d) x
 pub bump_before : {ks : List TokenKind} {t : Tree} (p : Punct) (more : Bool)
     → bump_operator p ≡ Some more → Shaped Unary ks t
     → Shaped Unary (kind.Punct p ∷ ks) (tree.bump true more t no_span)
-bump_before p more e x = lead (kind.Punct p) _ (λ s v. tree.bump true more v (over s (span_of v)))
+bump_before p more e x = terminal (kind.Punct p) _ (λ s v. tree.bump true more v (over s (span_of v)))
     (λ s r m a b v d. Reads.bump_before e d) (λ s v i. ap (λ q. tree.bump true more q no_span) i) x
 
 -- an operator before its operand
 pub prefix : {ks : List TokenKind} {t : Tree} (p : Punct) (f : UnOp) → prefix_operator p ≡ Some f
     → Shaped Cast ks t → Shaped Unary (kind.Punct p ∷ ks) (tree.unary f t no_span)
-prefix p f e x = lead (kind.Punct p) _ (λ s v. prefixed f s v) (λ s r m a b v d. Reads.prefix e d)
+prefix p f e x = terminal (kind.Punct p) _ (λ s v. prefixed f s v) (λ s r m a b v d. Reads.prefix e d)
     (λ s v i. ap (λ q. tree.unary f q no_span) i) x
 
 -- what needs no cast

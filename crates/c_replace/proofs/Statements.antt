@@ -9,18 +9,18 @@ use Rattle.c_lex.specs.declared.token.Punct.TheVariants as mark
 use Rattle.c_tree.specs.declared.place.Span.{Span}
 use Rattle.c_tree.specs.declared.stmt.Ty.{Ty}
 use Rattle.c_tree.specs.declared.program.Param.{Param}
-use Rattle.c_tree.specs.Parts.{span_of}
+use Rattle.c_tree.specs.Parts.{span_of, span_of_code}
 use Rattle.c_tree.specs.Tree as tree
 use Rattle.c_tree.specs.Tree.{Tree, Variable, First, Code, Body, Outer, bare, bare_option, bare_variable, bare_first, bare_code, bare_body, bare_param, bare_maybe, bare_outer, bare_program, no_span}
-use Rattle.c_grammar.specs.declared.part.Part.TheVariants.{Expression}
+use Rattle.c_grammar.specs.declared.nonterminal.Nonterminal.TheVariants.{Expression}
 use Rattle.c_grammar.specs.Operators.{result_word}
 use Rattle.c_grammar.specs.Grammar.{Tokens, over, Reads}
-use Rattle.c_grammar.specs.Programs.{code_span, function, Clause, Optional, Statement, Items, Signature, External, Derives}
+use Rattle.c_grammar.specs.Programs.{function, Clause, Optional, Statement, Items, Signature, External, Derives}
 use Rattle.c_lex.specs.Lexemes.{kinds}
 use Rattle.c_replace.specs.Shapes.{Shaped}
 use Rattle.c_replace.specs.Forms.{Formed, ShapedProgram}
 use Rattle.c_replace.proofs.Splits.{at_suc, headed, none_left}
-use Rattle.c_replace.proofs.Ends.{got_end, got_then}
+use Rattle.c_replace.proofs.NextToken.{got_end, got_then}
 use Rattle.c_replace.proofs.Forms.{VarsIn, bare_vars}
 
 -- two openers more
@@ -143,7 +143,7 @@ pub if_then : {o : Bool} {ks js : List TokenKind} {t : Tree} {y : Code} → Shap
 if_then {t = t} {y = y} x s = record {
   each = λ ls a e.
       let g = got_tested key.If ls a x s e in
-      let c = tree.if_then g.test g.body (over g.word (code_span g.body)) in
+      let c = tree.if_then g.test g.body (over g.word (span_of_code g.body)) in
       record {
         rest = g.rest;
         rest_kinds = g.rest_kinds;
@@ -166,7 +166,7 @@ pub while : {o : Bool} {ks js : List TokenKind} {t : Tree} {y : Code} → Shaped
 while {o} {t = t} {y = y} x s = record {
   each = λ ls a e.
       let g = got_tested key.While ls a x s e in
-      let c = tree.while g.test g.body (over g.word (code_span g.body)) in
+      let c = tree.while g.test g.body (over g.word (span_of_code g.body)) in
       record {
         rest = g.rest;
         rest_kinds = g.rest_kinds;
@@ -199,7 +199,7 @@ if_else {o} {ks} {js} {is} {t} {y} {z} x s v = record {
       let d = got_then (kind.Word key.Else) (is ++ ls) c.rest s
       (c.rest_kinds ∙ append_assoc js (kind.Word key.Else ∷ is) ls) in
       let f = v.each ls d.rest d.rest_kinds in
-      let found = tree.if_else c.found d.found f.found (over g.span (code_span f.found)) in
+      let found = tree.if_else c.found d.found f.found (over g.span (span_of_code f.found)) in
       let need = c.need + d.need + f.need in
       record {
         rest = f.rest;
@@ -276,7 +276,7 @@ for {o} {is} {ks} {js} {vs} {i} {t} {u} {y} p x w s = record {
       let f = got_then (kind.Punct mark.CloseParen) (vs ++ ls) d.rest w
       (d.rest_kinds ∙ append_assoc js (kind.Punct mark.CloseParen ∷ vs) ls) in
       let b = s.each ls f.rest f.rest_kinds in
-      let found = tree.for c.found d.found f.found b.found (over g.span (code_span b.found)) in
+      let found = tree.for c.found d.found f.found b.found (over g.span (span_of_code b.found)) in
       let need = c.need + d.need + f.need + b.need in
       record {
         rest = b.rest;

@@ -7,10 +7,10 @@ use Rattle.c_tree.specs.Tree.{Outer, bare, bare_program, no_span}
 use Rattle.c_grammar.specs.Grammar.{Tokens, Given, by_value, by_format, by_address}
 use Rattle.c_grammar.specs.Programs.{Derives}
 
--- Where there is room, a part is read from the tokens a on, and tokens of the kinds ls are left. It is
--- x but for what `bare` leaves out. R is the relation of the grammar by which it is read.
-pub record Got {X : Type 0} (R : ℕ → Tokens → Tokens → X → Type 0) (bare : X → X) (ls : List TokenKind)
-    (a : Tokens) (x : X) : Type 0 where
+-- Where there is room, a part is read from the tokens a on, and tokens of the kinds ls are left. It
+-- is x but for what `bare` leaves out. R is the relation of the grammar by which it is read.
+pub record Got {X : Type 0} (R : ℕ → Tokens → Tokens → X → Type 0) (bare : X → X)
+    (ls : List TokenKind) (a : Tokens) (x : X) : Type 0 where
   pub rest : Tokens
   pub rest_kinds : kinds rest ≡ ls
   pub need : ℕ

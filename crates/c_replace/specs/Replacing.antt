@@ -1,4 +1,5 @@
--- The tokens of a location in those of a program, and what is derived when others stand in their place.
+-- The tokens of a location in those of a program, and what is derived when others stand in their
+-- place.
 use Rattle.std.specs.Prelude.{◌≡◌, ℕ, ◌≤◌, true, false, List, [], ◌∷◌, ◌++◌, length, Some}
 use Rattle.std.specs.List.{Contains}
 use Rattle.c_lex.specs.declared.token.TokenKind.{TokenKind}
@@ -16,7 +17,7 @@ use Rattle.c_location.specs.Changes.{replaced, combined, guarded}
 use Rattle.c_location.specs.Locations.{Part, expression, statement, locations, part_at}
 use Rattle.c_location.specs.OnePlace.{IsOf}
 use Rattle.c_location.specs.Rewrites.{Rewrite, rewrite, rewritten}
-use Rattle.c_grammar.specs.declared.part.Part.TheVariants.{Expression, Assignment}
+use Rattle.c_grammar.specs.declared.nonterminal.Nonterminal.TheVariants.{Expression, Assignment}
 use Rattle.c_grammar.specs.Grammar.{Tokens}
 use Rattle.c_grammar.specs.Programs.{Statement, Derives}
 use Rattle.c_replace.specs.Shapes.{Shaped, is_settled}
@@ -27,15 +28,15 @@ abbrev pub IsPart : List TokenKind → Part → Type 0
 IsPart ks (expression e) = Shaped Expression ks (bare e)
 IsPart ks (statement c) = Formed (Statement false) bare_code ks (bare_code c)
 
--- Tokens of these kinds can stand at a location of that kind, and are the part there. A right side has
--- no comma outside parentheses.
+-- Tokens of these kinds can stand at a location of that kind, and are the part there. A right side
+-- has no comma outside parentheses.
 abbrev pub Fits : LocKind → List TokenKind → Part → Type 0
 Fits Right ks (expression e) = Shaped Assignment ks (bare e)
 Fits _ ks part = IsPart ks part
 
 -- The tokens of a location in those of a program. They cover its text, and are the part that stands
--- there. Where others stand in their place that are what a rewrite makes of the part, the tokens are
--- the program rewritten at the location.
+-- there. Where others stand in their place that are what a rewrite makes of the part, the tokens
+-- are the program rewritten at the location.
 pub record Replaceable (l : Loc) (p : List Outer) (a : Tokens) : Type 0 where
   pub before : Tokens
   pub own : Tokens
@@ -78,23 +79,30 @@ abbrev pub guarded_kinds : List TokenKind → List TokenKind → List TokenKind
 guarded_kinds test old = kind.Punct mark.OpenBrace ∷ kind.Word key.If ∷ kind.Punct mark.OpenParen
     ∷ (test ++ kind.Punct mark.CloseParen ∷ (old ++ kind.Punct mark.CloseBrace ∷ []))
 
--- Where tokens of the kinds ks stand between those before a location and those after it, they are the
--- program with that change at the location.
-abbrev pub Becomes : Loc → List Outer → List TokenKind → List TokenKind → List TokenKind → Rewrite → Type 0
+-- Where tokens of the kinds ks stand between those before a location and those after it, they are
+-- the program with that change at the location.
+abbrev pub Becomes : Loc → List Outer → List TokenKind → List TokenKind → List TokenKind → Rewrite
+    → Type 0
 Becomes l p before after ks change =
     ShapedProgram (before ++ (ks ++ after)) (bare_program (rewritten l change p))
 
--- what each change of a patch puts in the place of a location, whose own tokens are of the kinds `own`
-pub record ReplaceableBy (l : Loc) (p : List Outer) (before own after : List TokenKind) : Type 0 where
-  pub condition : l.kind ≡ Cond → (ks : List TokenKind) (new : Tree) → Shaped Expression ks (bare new)
+-- what each change of a patch puts in the place of a location, whose own tokens are of the kinds
+-- `own`
+pub record ReplaceableBy (l : Loc) (p : List Outer)
+    (before own after : List TokenKind) : Type 0 where
+  pub condition : l.kind ≡ Cond → (ks : List TokenKind) (new : Tree)
+      → Shaped Expression ks (bare new)
       → Becomes l p before after ks (replaced new)
-  pub narrowed : l.kind ≡ Cond → (ks : List TokenKind) (new : Tree) → Shaped Expression ks (bare new)
+  pub narrowed : l.kind ≡ Cond → (ks : List TokenKind) (new : Tree)
+      → Shaped Expression ks (bare new)
       → Becomes l p before after (joined_kinds mark.AndAnd own ks) (combined Both new)
   pub widened : l.kind ≡ Cond → (ks : List TokenKind) (new : Tree) → Shaped Expression ks (bare new)
       → Becomes l p before after (joined_kinds mark.OrOr own ks) (combined Either new)
-  pub right_side : l.kind ≡ Right → (ks : List TokenKind) (new : Tree) → Shaped Assignment ks (bare new)
+  pub right_side : l.kind ≡ Right → (ks : List TokenKind) (new : Tree)
+      → Shaped Assignment ks (bare new)
       → Becomes l p before after ks (replaced new)
-  pub guard : l.kind ≡ Guard → (test : List TokenKind) (new : Tree) → Shaped Expression test (bare new)
+  pub guard : l.kind ≡ Guard → (test : List TokenKind) (new : Tree)
+      → Shaped Expression test (bare new)
       → Becomes l p before after (guarded_kinds test own) (guarded new)
 
 -- What can be replaced can be replaced by each change that a patch makes.

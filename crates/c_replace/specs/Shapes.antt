@@ -1,21 +1,18 @@
--- Expressions by the kinds of their tokens alone: all tokens of some kinds are the same expression, but
--- for spans.
+-- Expressions by the kinds of their tokens alone: all tokens of some kinds are the same expression,
+-- but for spans.
 use Rattle.std.specs.Prelude.{◌≡◌, ℕ, ◌+◌, ◌≤◌, Bool, true, false, List, [], ◌∷◌, ◌++◌}
-use Rattle.c_lex.specs.declared.token.Punct.{Punct as Mark}
-use Rattle.c_lex.specs.declared.token.Punct.TheVariants.{Question}
 use Rattle.c_lex.specs.declared.token.TokenKind.{TokenKind}
-use Rattle.c_lex.specs.declared.token.TokenKind.TheVariants.{Punct}
-use Rattle.c_lex.specs.Lexemes.{kinds, Covers}
+use Rattle.c_lex.specs.Lexemes.{kinds, Covers, is_other}
 use Rattle.c_tree.specs.Parts.{span_of}
 use Rattle.c_tree.specs.Tree as tree
 use Rattle.c_tree.specs.Tree.{Tree, bare}
-use Rattle.c_grammar.specs.declared.part.Part.{Part}
+use Rattle.c_grammar.specs.declared.nonterminal.Nonterminal.{Nonterminal}
 use Rattle.c_grammar.specs.Grammar.{Tokens, Reads}
 
 -- Where there is room, an expression of the kind N is read from the tokens a on, and tokens of the
--- kinds ls are left. It is t but for spans, slots and the spelling of constants. No more room is taken
--- than is needed.
-pub record GotTree (N : Part) (ls : List TokenKind) (a : Tokens) (t : Tree) : Type 0 where
+-- kinds ls are left. It is t but for spans, slots and the spelling of constants. No more room is
+-- taken than is needed.
+pub record GotTree (N : Nonterminal) (ls : List TokenKind) (a : Tokens) (t : Tree) : Type 0 where
   pub rest : Tokens
   pub rest_kinds : kinds rest ≡ ls
   pub need : ℕ
@@ -24,18 +21,8 @@ pub record GotTree (N : Part) (ls : List TokenKind) (a : Tokens) (t : Tree) : Ty
   pub reads : (r : ℕ) → need ≤ r → (m : ℕ) × (r ≤ m + need) × Reads N r a m rest found
 
 -- all tokens of these kinds are the expression t of the kind N, whatever follows them
-pub record Shaped (N : Part) (ks : List TokenKind) (t : Tree) : Type 0 where
+pub record Shaped (N : Nonterminal) (ks : List TokenKind) (t : Tree) : Type 0 where
   pub each : (ls : List TokenKind) (a : Tokens) → kinds a ≡ ks ++ ls → GotTree N ls a t
-
--- the punctuator is no `?`
-abbrev pub is_no_question : Mark → Bool
-is_no_question Question = false
-is_no_question _ = true
-
--- the token is no `?`
-abbrev pub is_other : TokenKind → Bool
-is_other (Punct p) = is_no_question p
-is_other _ = true
 
 -- there are tokens, and the last is no `?`
 abbrev pub is_settled : Tokens → Bool
@@ -49,9 +36,9 @@ is_whole tree.hole = false
 is_whole (tree.hole_after t) = false
 is_whole _ = true
 
--- The tokens from a down to b are the expression's own: they cover its text, the last is no `?`, and
--- all tokens of their kinds are the same expression.
-pub record Own (N : Part) (a b : Tokens) (t : Tree) : Type 0 where
+-- The tokens from a down to b are the expression's own: they cover its text, the last is no `?`,
+-- and all tokens of their kinds are the same expression.
+pub record Own (N : Nonterminal) (a b : Tokens) (t : Tree) : Type 0 where
   pub own : Tokens
   pub splits : a ≡ own ++ b
   pub shaped : Shaped N (kinds own) (bare t)
@@ -62,4 +49,5 @@ pub record Own (N : Part) (a b : Tokens) (t : Tree) : Type 0 where
 -- What is read as an expression has tokens of its own, and all tokens of their kinds are the same
 -- expression.
 abbrev pub ExpressionsByKinds : Type 0
-ExpressionsByKinds = (N : Part) (r m : ℕ) (a b : Tokens) (t : Tree) → Reads N r a m b t → Own N a b t
+ExpressionsByKinds =
+    (N : Nonterminal) (r m : ℕ) (a b : Tokens) (t : Tree) → Reads N r a m b t → Own N a b t

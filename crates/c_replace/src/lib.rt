@@ -1,4 +1,5 @@
-//! Laws of the grammar by the kinds of tokens alone: what is derived when the tokens of a location are replaced by others.
+//! Laws of the grammar by the kinds of tokens alone: what is derived when the tokens of a location
+//! are replaced by others.
 #![tactic(auto)]
 
 mod laws;

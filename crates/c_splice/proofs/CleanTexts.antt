@@ -4,7 +4,7 @@ use Rattle.std.proofs.lemmas.Bool.Decides.{nat_tests}
 use Rattle.c_lex.specs.Bytes.{Bytes}
 use Rattle.c_lex.specs.Places.{IsNowhere, is_refused, ends_trigraph}
 use Rattle.c_splice.specs.Seams.{is_seam, begins_seam}
-use Rattle.c_splice.specs.Ends.{is_calm, ends_query, begins_plain}
+use Rattle.c_splice.specs.Edges.{is_calm, ends_query, begins_plain}
 
 -- ---- single places
 

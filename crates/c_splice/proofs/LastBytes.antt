@@ -8,7 +8,7 @@ use Rattle.c_lex.specs.Pieces.{goes_on_word, goes_on_number, is_chain, is_identi
 use Rattle.c_lex.specs.Constants.{closes, is_quoted}
 use Rattle.c_lex.specs.Tokens.{Macros}
 use Rattle.c_lex.proofs.Runs.{both_left, both_right}
-use Rattle.c_splice.specs.Ends.{is_calm}
+use Rattle.c_splice.specs.Edges.{is_calm}
 use Rattle.c_splice.specs.Words.{Spells}
 
 -- a letter is calm

@@ -26,16 +26,16 @@ use Rattle.c_splice.proofs.TightWords.{tight_word}
 -- a punctuator of one byte that is the longest piece there is its token, and what follows is cut as
 -- it is by itself
 one_mark : {m : Macros} (p : Mark) (c : ℕ) (s : Bytes) (ls : List TokenKind) → punct_spelling p ≡ c ∷ []
-    → opening_of (c ∷ s) ≡ opening.Mark → IsLongest (c ∷ []) s
+    → opening_of (c ∷ s) ≡ opening.Other → IsLongest (c ∷ []) s
     → CutsInto true m s ls → CutsInto true m (c ∷ s) (Punct p ∷ ls)
 one_mark {m} p c s ls e o h g =
     let some = piece_not_empty (IsPiece.punctuator p refl) in
-    let opens : opening_of (punct_spelling p ++ s) ≡ opening.Mark =
+    let opens : opening_of (punct_spelling p ++ s) ≡ opening.Other =
     ap (λ q. opening_of (q ++ s)) e ∙ o in
     let longest = subst (λ q. IsLongest q s) (sym e) h in
     subst (λ q. CutsInto true m (q ++ s) (Punct p ∷ ls)) e
-    (takes_by (punct_spelling p) s (Punct p) opening.Mark ls some opens
-    (λ at. Stands.mark p s refl longest) g)
+    (takes_by (punct_spelling p) s (Punct p) opening.Other ls some opens
+    (λ at. Stands.punctuator p s refl longest) g)
 
 -- ---- one byte that is a token, whatever follows
 
@@ -85,7 +85,7 @@ lone_longest b rest s p = record { piece = p; longest = λ v z e q. short v z e 
 
 -- so a punctuator that is a seam is its token, whatever follows
 pub lone_loose : {m : Macros} (p : Mark) (b : ℕ) → punct_spelling p ≡ b ∷ [] → is_seam b ≡ true
-    → ((rest : Bytes) → opening_of (b ∷ rest) ≡ opening.Mark) → IsLoose m (b ∷ []) (Punct p ∷ [])
+    → ((rest : Bytes) → opening_of (b ∷ rest) ≡ opening.Other) → IsLoose m (b ∷ []) (Punct p ∷ [])
 lone_loose {m} p b e s o = record {
   before = λ rest ls g.
       one_mark p b rest ls e (o rest) (lone_longest b rest s (IsPiece.punctuator p (sym e))) g;
@@ -137,7 +137,7 @@ space {m} =
 -- ---- punctuators and keywords before a seam
 
 -- what a punctuator begins with before a space
-mark_opens : (p : Mark) → opening.Mark ≡ opening_of (punct_spelling p ++ 32 ∷ [])
+mark_opens : (p : Mark) → opening.Other ≡ opening_of (punct_spelling p ++ 32 ∷ [])
 unfolding punct_spelling
 mark_opens mark.OpenParen = refl
 mark_opens _ = refl
@@ -149,10 +149,10 @@ mark_before p [] ls i g = absurd (cc)
 mark_before p (b ∷ s) ls i g =
     let w = punct_spelling p in
     let some = piece_not_empty (IsPiece.punctuator p refl) in
-    let opens = opening_seam w (32 ∷ []) s b opening.Mark some i (mark_opens p) refl in
+    let opens = opening_seam w (32 ∷ []) s b opening.Other some i (mark_opens p) refl in
     let longest = seam_longest w s b some i (IsPiece.punctuator p refl) in
-    takes_by w (b ∷ s) (Punct p) opening.Mark ls some (sym opens)
-    (λ at. Stands.mark p (b ∷ s) refl longest) g
+    takes_by w (b ∷ s) (Punct p) opening.Other ls some (sym opens)
+    (λ at. Stands.punctuator p (b ∷ s) refl longest) g
 
 -- a punctuator is cut into its token before a seam
 pub mark_tight : {m : Macros} (p : Mark) → IsTight m (punct_spelling p) (Punct p ∷ [])
@@ -214,7 +214,7 @@ no_pair c b l d f i (IsPiece.punctuator p e) =
 pub sign_before : {m : Macros} (p : Mark) (c : ℕ) (s : Bytes) (ls : List TokenKind)
     → punct_spelling p ≡ c ∷ [] → is_letter c ≡ false → is_ascii_digit c ≡ false
     → ((q : Mark) → is_apart c (punct_spelling q) ≡ true)
-    → ((rest : Bytes) → opening_of (c ∷ rest) ≡ opening.Mark) → begins_operand s ≡ true
+    → ((rest : Bytes) → opening_of (c ∷ rest) ≡ opening.Other) → begins_operand s ≡ true
     → CutsInto true m s ls → CutsInto true m (c ∷ s) (Punct p ∷ ls)
 sign_before p c [] ls e l d f o i g = absurd (cc)
 sign_before p c (b ∷ s) ls e l d f o i g =

@@ -1,14 +1,14 @@
 -- A text is parted at each of its tokens, and its parts are cut alike in other texts.
 use Rattle.std.proofs.Common.{◌≡◌, ℕ, ℤ, ◌+◌, ◌≤◌, Bool, true, false, not, List, [], ◌∷◌, ◌++◌, length, drop, Ok, refl, sym, ap, ◌∙◌, subst, arith, append_assoc, length-append}
-use Rattle.c_lex.specs.declared.front.Front.TheVariants as front
+use Rattle.c_lex.specs.declared.scan.Scanned.TheVariants as scanned
 use Rattle.c_lex.specs.declared.token.TokenKind.{TokenKind}
 use Rattle.c_lex.specs.Bytes.{Bytes, is_space}
-use Rattle.c_lex.specs.Lexemes.{Lexeme, span_at, kinds, end_of}
+use Rattle.c_lex.specs.Lexemes.{Lexeme, span_at, kinds, end_of, is_other}
 use Rattle.c_lex.specs.Places.{IsNowhere, is_refused}
 use Rattle.c_lex.specs.Openings.{opening_of}
 use Rattle.c_lex.specs.Tokens.{Macros, Outcome, Stands, Cuts}
 use Rattle.c_splice.specs.Seams.{begins_seam, CutsInto}
-use Rattle.c_splice.specs.Ends.{is_other, ends_other}
+use Rattle.c_splice.specs.Edges.{ends_other}
 use Rattle.c_splice.specs.Words.{Worded, AllWorded}
 use Rattle.c_splice.proofs.CleanTexts.{clean_drop}
 use Rattle.c_splice.proofs.FirstBytes.{space_opens}
@@ -49,7 +49,7 @@ pub record UpTo (begun : Bool) (m : Macros) (at : ℕ) (z : Bytes) (pre : List L
 
 -- a token begins with no white space
 token_starts : {m : Macros} {at : ℕ} {begun : Bool} (b : ℕ) (z : Bytes) (kind : TokenKind) (len : ℕ)
-    → Stands m at (b ∷ z) begun (opening_of (b ∷ z)) (Ok (front.Take kind len))
+    → Stands m at (b ∷ z) begun (opening_of (b ∷ z)) (Ok (scanned.Take kind len))
     → begins_token (b ∷ z) ≡ true
 token_starts b z kind len s = by (is_space b) refl
   where
@@ -78,7 +78,7 @@ question_last k u (v ∷ pre) x e h s l = absurd (let more = s (omega arith) in 
 -- white space, a comment or an `#include` before a text that is parted
 pass_up_to : {begun : Bool} {m : Macros} {at b len : ℕ} {z : Bytes} {pre : List Lexeme} {t : Lexeme}
     {post : List Lexeme} (h : UpTo begun m (at + len) (drop len (b ∷ z)) pre t post)
-    → Step begun m at (b ∷ z) (Ok (front.Pass len)) h.prefix h.after
+    → Step begun m at (b ∷ z) (Ok (scanned.Pass len)) h.prefix h.after
     → UpTo begun m at (b ∷ z) pre t post
 pass_up_to {begun} {m} {at} {b} {len} {z} {pre} {t} {post} h k = record {
   prefix = k.w ++ h.prefix;
@@ -103,7 +103,7 @@ pass_up_to {begun} {m} {at} {b} {len} {z} {pre} {t} {post} h k = record {
 -- the definition of a macro before one
 define_up_to : {m : Macros} {at b len : ℕ} {z name : Bytes} {value : ℤ} {pre : List Lexeme} {t : Lexeme}
     {post : List Lexeme} (h : UpTo false ((name, value) ∷ m) (at + len) (drop len (b ∷ z)) pre t post)
-    → Step false m at (b ∷ z) (Ok (front.Define name value len)) h.prefix h.after
+    → Step false m at (b ∷ z) (Ok (scanned.Define name value len)) h.prefix h.after
     → UpTo false m at (b ∷ z) pre t post
 define_up_to {m} {at} {b} {len} {z} {name} {value} {pre} {t} {post} h k = record {
   prefix = k.w ++ h.prefix;
@@ -128,9 +128,9 @@ define_up_to {m} {at} {b} {len} {z} {name} {value} {pre} {t} {post} h k = record
 -- a token before one
 take_up_to : {begun : Bool} {m : Macros} {at b len : ℕ} {z : Bytes} {kind : TokenKind} (u : Lexeme)
     {pre : List Lexeme} {t : Lexeme} {post : List Lexeme} → kind ≡ u.0
-    → Stands m at (b ∷ z) begun (opening_of (b ∷ z)) (Ok (front.Take kind len))
+    → Stands m at (b ∷ z) begun (opening_of (b ∷ z)) (Ok (scanned.Take kind len))
     → (h : UpTo true m (at + len) (drop len (b ∷ z)) pre t post)
-    → Step begun m at (b ∷ z) (Ok (front.Take kind len)) h.prefix h.after
+    → Step begun m at (b ∷ z) (Ok (scanned.Take kind len)) h.prefix h.after
     → UpTo begun m at (b ∷ z) (u ∷ pre) t post
 take_up_to {begun} {m} {at} {b} {len} {z} {kind} u {pre} {t} {post} same s h k =
     let inner : h.inner ≡ m = h.kept refl in
@@ -187,12 +187,12 @@ pub parted : {begun : Bool} {m : Macros} {at : ℕ} {z : Bytes} {r : Outcome} �
 parted Cuts.done pre t post e = absurd (none_there pre t post e)
 parted (Cuts.pass {b = b} {z = z} len s d) pre t post e =
     let h = parted d pre t post e in
-    pass_up_to h (step b z (front.Pass len) h.prefix h.after s h.is_text)
+    pass_up_to h (step b z (scanned.Pass len) h.prefix h.after s h.is_text)
 parted {begun = true} (Cuts.define {b = b} {z = z} name value len s d) pre t post e =
     absurd (begun_no_define s refl refl)
 parted {begun = false} (Cuts.define {b = b} {z = z} name value len s d) pre t post e =
     let h = parted d pre t post e in
-    define_up_to h (step b z (front.Define name value len) h.prefix h.after s h.is_text)
+    define_up_to h (step b z (scanned.Define name value len) h.prefix h.after s h.is_text)
 parted {begun} {m} {at} (Cuts.token {b = b} {z = z} {r = o} kind len s d) [] t post e =
     let p = also_ok (kind, span_at at len) o (t ∷ post) e in
     let same : (kind, span_at at len) ≡ t = let f = p.2 in cc in
@@ -207,7 +207,7 @@ parted {begun} {m} {at} (Cuts.token {b = b} {z = z} {r = o} kind len s d) (u ∷
     let same : (kind, span_at at len) ≡ u = let f = p.2 in cc in
     let tail : p.0 ≡ pre ++ t ∷ post = let f = p.2 in cc in
     let h = parted d pre t post (p.1 ∙ ap Ok tail) in
-    take_up_to u (ap (λ q. q.0) same) s h (step b z (front.Take kind len) h.prefix h.after s h.is_text)
+    take_up_to u (ap (λ q. q.0) same) s h (step b z (scanned.Take kind len) h.prefix h.after s h.is_text)
 parted (Cuts.stop f s) pre t post e = absurd (cc)
 
 -- ---- after a token
@@ -230,7 +230,7 @@ pub record Through (begun : Bool) (m : Macros) (at : ℕ) (z : Bytes) (t : Lexem
 pass_through : {begun : Bool} {m : Macros} {at b len : ℕ} {z : Bytes} {t : Lexeme}
     {own post : List Lexeme}
     (h : Through begun m (at + len) (drop len (b ∷ z)) t own post)
-    → Step begun m at (b ∷ z) (Ok (front.Pass len)) h.prefix h.after
+    → Step begun m at (b ∷ z) (Ok (scanned.Pass len)) h.prefix h.after
     → Through begun m at (b ∷ z) t own post
 pass_through {begun} {m} {at} {b} {len} {z} {t} {own} {post} h k = record {
   prefix = k.w ++ h.prefix;
@@ -250,7 +250,7 @@ pass_through {begun} {m} {at} {b} {len} {z} {t} {own} {post} h k = record {
 last_through : {begun : Bool} {m : Macros} {at b len : ℕ} {z rest : Bytes} {kind : TokenKind}
     (t : Lexeme)
     {post : List Lexeme} → (kind, span_at at len) ≡ t → Cuts true m (at + len) rest (Ok post)
-    → Step begun m at (b ∷ z) (Ok (front.Take kind len)) [] rest → Through begun m at (b ∷ z) t [] post
+    → Step begun m at (b ∷ z) (Ok (scanned.Take kind len)) [] rest → Through begun m at (b ∷ z) t [] post
 last_through {begun} {m} {at} {b} {len} {z} {rest} {kind} t {post} same d k =
     let same_kind : kind ≡ t.0 = ap (λ q. q.0) same in
     let place : at + len ≡ t.1.to = ap (λ q. q.1.to) same in
@@ -273,7 +273,7 @@ last_through {begun} {m} {at} {b} {len} {z} {rest} {kind} t {post} same d k =
 take_through : {begun : Bool} {m : Macros} {at b len : ℕ} {z : Bytes} {kind : TokenKind} (t u : Lexeme)
     {own post : List Lexeme} → kind ≡ t.0
     → (h : Through true m (at + len) (drop len (b ∷ z)) u own post)
-    → Step begun m at (b ∷ z) (Ok (front.Take kind len)) h.prefix h.after
+    → Step begun m at (b ∷ z) (Ok (scanned.Take kind len)) h.prefix h.after
     → Through begun m at (b ∷ z) t (u ∷ own) post
 take_through {begun} {m} {at} {b} {len} {z} {kind} t u {own} {post} same h k = record {
   prefix = k.w ++ h.prefix;
@@ -298,7 +298,7 @@ pub ended : {begun : Bool} {m : Macros} {at : ℕ} {z : Bytes} {r : Outcome} →
 ended Cuts.done t own post e i = absurd (cc)
 ended (Cuts.pass {b = b} {z = z} len s d) t own post e i =
     let h = ended d t own post e i in
-    pass_through h (step b z (front.Pass len) h.prefix h.after s h.is_text)
+    pass_through h (step b z (scanned.Pass len) h.prefix h.after s h.is_text)
 ended (Cuts.define name value len s d) t own post e i = absurd (begun_no_define s i refl)
 ended {begun} {m} {at} (Cuts.token {b = b} {z = z} {r = o} kind len s d) t [] post e i =
     let p = also_ok (kind, span_at at len) o (t ∷ post) e in
@@ -306,14 +306,14 @@ ended {begun} {m} {at} (Cuts.token {b = b} {z = z} {r = o} kind len s d) t [] po
     let tail : p.0 ≡ post = let f = p.2 in cc in
     let later : Cuts true m (at + len) (drop len (b ∷ z)) (Ok post) =
     subst (λ q. Cuts true m (at + len) (drop len (b ∷ z)) q) (p.1 ∙ ap Ok tail) d in
-    last_through t same later (step b z (front.Take kind len) [] (drop len (b ∷ z)) s refl)
+    last_through t same later (step b z (scanned.Take kind len) [] (drop len (b ∷ z)) s refl)
 ended {at = at} (Cuts.token {b = b} {z = z} {r = o} kind len s d) t (u ∷ own) post e i =
     let p = also_ok (kind, span_at at len) o (t ∷ (u ∷ (own ++ post))) e in
     let same : (kind, span_at at len) ≡ t = let f = p.2 in cc in
     let tail : p.0 ≡ u ∷ (own ++ post) = let f = p.2 in cc in
     let h = ended d u own post (p.1 ∙ ap Ok tail) refl in
     take_through t u (ap (λ q. q.0) same) h
-    (step b z (front.Take kind len) h.prefix h.after s h.is_text)
+    (step b z (scanned.Take kind len) h.prefix h.after s h.is_text)
 ended (Cuts.stop f s) t own post e i = absurd (cc)
 
 -- ---- words

@@ -2,7 +2,7 @@
 use Rattle.std.proofs.Common.{◌≡◌, ℕ, zero, suc, ◌+◌, ◌≤◌, Bool, true, false, not, ◌&&◌, ◌||◌, ◌==◌, [], ◌∷◌, ◌++◌, length, drop, Ok, refl, sym, ap, ◌∙◌, subst, arith}
 use Rattle.std.proofs.lemmas.Bool.Decides.{nat_tests}
 use Rattle.std.proofs.lemmas.List.{append-nil}
-use Rattle.c_lex.specs.declared.front.Front.TheVariants as front
+use Rattle.c_lex.specs.declared.scan.Scanned.TheVariants as scanned
 use Rattle.c_lex.specs.declared.opening.Opening.{Opening}
 use Rattle.c_lex.specs.declared.opening.Opening.TheVariants as opening
 use Rattle.c_lex.specs.declared.token.Punct.{Punct as Mark}
@@ -13,9 +13,10 @@ use Rattle.c_lex.specs.Places.{IsFirstAt, is_line_end, is_comment_end}
 use Rattle.c_lex.specs.Openings.{opening_of}
 use Rattle.c_lex.specs.Tokens.{Macros, Found, IsDirective, Stands}
 use Rattle.c_lex.proofs.Longest.{piece_not_empty}
-use Rattle.c_splice.specs.Ends.{is_calm, ends_query, is_other, is_no_question}
+use Rattle.c_lex.specs.Lexemes.{is_other, is_no_question}
+use Rattle.c_splice.specs.Edges.{is_calm, ends_query}
 use Rattle.c_splice.proofs.LastBytes.{identifier_calm, number_word_calm, quoted_calm}
-use Rattle.c_splice.proofs.Ends.{line_end_after, line_kept}
+use Rattle.c_splice.proofs.CommentEnds.{line_end_after, line_kept}
 use Rattle.c_splice.proofs.Stood.{reach, is_taken, begins_token, no_token, says_moved, says_not_taken, number_moved, character_moved, text_moved, filled}
 use Rattle.c_splice.proofs.FirstBytes.{space_first, starts_letter, starts_digit}
 use Rattle.c_splice.proofs.Worded.{piece_word, piece_number}
@@ -52,7 +53,7 @@ calm_no_question (b ∷ c ∷ x) h = calm_no_question (c ∷ x) h
 
 -- what stands at a place is the token `?`
 abbrev pub is_question : Found → Bool
-is_question (Ok (front.Take k n)) = not (is_other k)
+is_question (Ok (scanned.Take k n)) = not (is_other k)
 is_question _ = false
 
 -- white space is no `?`
@@ -134,7 +135,7 @@ stood_end {at = at} (Stands.text a rest g h s) w y e i f l t k =
     no_question_of w a same.0 (calm_no_question a (quoted_calm 34 a refl h))
 stood_end (Stands.open_text h) w y e i f l t k = absurd (omega arith)
 stood_end Stands.digraph w y e i f l t k = absurd (omega arith)
-stood_end (Stands.mark p rest g h) w y e i f l t k =
+stood_end (Stands.punctuator p rest g h) w y e i f l t k =
     let same = filled _ w y (punct_spelling p) rest g e f in
     no_question_of w (punct_spelling p) same.0 (punct_end p ∙ k)
 stood_end (Stands.stray h) w y e i f l t k = absurd (omega arith)

@@ -4,9 +4,9 @@ use Rattle.c_lex.specs.Bytes.{Bytes}
 use Rattle.c_lex.specs.Lexemes.{Lexeme, kinds, end_of}
 use Rattle.c_lex.specs.Places.{IsNowhere, is_refused}
 use Rattle.c_lex.specs.Tokens.{Macros, first_macros, Lexes}
-use Rattle.c_lex.proofs.Appends.{front_dropped, front_taken}
+use Rattle.c_lex.proofs.Appends.{prefix_dropped, prefix_taken}
 use Rattle.c_splice.specs.Seams.{IsTight}
-use Rattle.c_splice.specs.Ends.{ends_query, begins_plain}
+use Rattle.c_splice.specs.Edges.{ends_query, begins_plain}
 use Rattle.c_splice.specs.Replaced.{between, Replaceable}
 use Rattle.c_splice.specs.Words.{AllWorded}
 use Rattle.c_splice.proofs.Steps.{moved}
@@ -17,14 +17,14 @@ use Rattle.c_splice.proofs.CleanTexts.{clean_prefix, clean_suffix, clean_calm, c
 -- the first of the three parts of a text
 part_first : (z x y v : Bytes) (from : ℕ) → z ≡ x ++ (y ++ v) → length x ≡ from → take from z ≡ x
 part_first z x y v from e l =
-    ap (λ q. take from q) e ∙ ap (λ q. take q (x ++ (y ++ v))) (sym l) ∙ front_taken x (y ++ v)
+    ap (λ q. take from q) e ∙ ap (λ q. take q (x ++ (y ++ v))) (sym l) ∙ prefix_taken x (y ++ v)
 
 -- the last of them
 part_last : (z x y v : Bytes) (to : ℕ) → z ≡ x ++ (y ++ v) → length x + length y ≡ to → drop to z ≡ v
 part_last z x y v to e l =
     let size : length (x ++ y) ≡ to = omega (arith, l, length-append x y) in
     ap (λ q. drop to q) (e ∙ sym (append_assoc x y v)) ∙ ap (λ q. drop q ((x ++ y) ++ v)) (sym size)
-    ∙ front_dropped (x ++ y) v
+    ∙ prefix_dropped (x ++ y) v
 
 -- the middle one
 part_middle : (z x y v : Bytes) (from to : ℕ) → z ≡ x ++ (y ++ v) → length x ≡ from
@@ -33,8 +33,8 @@ part_middle z x y v from to e l k =
     let size : length y ≡ to - from = omega (arith, l, k) in
     let rest : drop from z ≡ y ++ v =
     ap (λ q. drop from q) e ∙ ap (λ q. drop q (x ++ (y ++ v))) (sym l)
-    ∙ front_dropped x (y ++ v) in
-    ap (λ q. take (to - from) q) rest ∙ ap (λ q. take q (y ++ v)) (sym size) ∙ front_taken y v
+    ∙ prefix_dropped x (y ++ v) in
+    ap (λ q. take (to - from) q) rest ∙ ap (λ q. take q (y ++ v)) (sym size) ∙ prefix_taken y v
 
 -- the words of some tokens and of others
 words_append : (m : Macros) (ts us : List Lexeme) → AllWorded m ts → AllWorded m us

@@ -1,15 +1,15 @@
 -- The steps of a cut, in other texts and from other places on.
 use Rattle.std.proofs.Common.{◌≡◌, ℕ, ℤ, ◌+◌, ◌≤◌, Bool, true, ◌||◌, List, [], ◌∷◌, ◌++◌, length, take, drop, Ok, Err, refl, sym, ap, ◌∙◌, subst, arith, take-append-drop}
 use Rattle.std.proofs.lemmas.List.{length-take-le}
-use Rattle.c_lex.specs.declared.front.Front.{Front}
-use Rattle.c_lex.specs.declared.front.Front.TheVariants as front
+use Rattle.c_lex.specs.declared.scan.Scanned.{Scanned}
+use Rattle.c_lex.specs.declared.scan.Scanned.TheVariants as scanned
 use Rattle.c_lex.specs.declared.opening.Opening.{Opening}
 use Rattle.c_lex.specs.declared.token.TokenKind.{TokenKind}
 use Rattle.c_lex.specs.Bytes.{Bytes}
 use Rattle.c_lex.specs.Lexemes.{Lexeme, span_at, kinds}
 use Rattle.c_lex.specs.Openings.{opening_of}
 use Rattle.c_lex.specs.Tokens.{Macros, Found, Outcome, Stands, Cuts, also}
-use Rattle.c_lex.proofs.Appends.{front_dropped}
+use Rattle.c_lex.proofs.Appends.{prefix_dropped}
 use Rattle.c_lex.proofs.Sizes.{IsWithin, stands_within}
 use Rattle.c_splice.specs.Seams.{begins_seam, CutsInto}
 use Rattle.c_splice.proofs.Stood.{size, reach, is_taken, begins_token, stands_same, stands_seam, stands_moved}
@@ -18,12 +18,12 @@ use Rattle.c_splice.proofs.Stood.{size, reach, is_taken, begins_token, stands_sa
 
 -- what is left after a prefix
 left : (w s : Bytes) (len : ℕ) → len ≡ length w → s ≡ drop len (w ++ s)
-left w s len e = sym (ap (λ q. drop q (w ++ s)) e ∙ front_dropped w s)
+left w s len e = sym (ap (λ q. drop q (w ++ s)) e ∙ prefix_dropped w s)
 
 -- white space, a comment or an `#include` before a text
 pub passes : {begun : Bool} {m : Macros} (w s : Bytes) (len : ℕ) (ks : List TokenKind)
     → len ≡ length w → 1 ≤ length w
-    → ((at : ℕ) → Stands m at (w ++ s) begun (opening_of (w ++ s)) (Ok (front.Pass len)))
+    → ((at : ℕ) → Stands m at (w ++ s) begun (opening_of (w ++ s)) (Ok (scanned.Pass len)))
     → CutsInto begun m s ks → CutsInto begun m (w ++ s) ks
 passes [] s len ks e l h g at = absurd (omega arith)
 passes {begun} {m} (b ∷ w) s len ks e l h g at =
@@ -38,7 +38,7 @@ passes {begun} {m} (b ∷ w) s len ks e l h g at =
 pub defines : {begun : Bool} {m : Macros} (w s : Bytes) (name : Bytes) (value : ℤ) (len : ℕ)
     (ks : List TokenKind)
     → len ≡ length w → 1 ≤ length w
-    → ((at : ℕ) → Stands m at (w ++ s) begun (opening_of (w ++ s)) (Ok (front.Define name value len)))
+    → ((at : ℕ) → Stands m at (w ++ s) begun (opening_of (w ++ s)) (Ok (scanned.Define name value len)))
     → CutsInto begun ((name, value) ∷ m) s ks → CutsInto begun m (w ++ s) ks
 defines [] s name value len ks e l h g at = absurd (omega arith)
 defines {begun} {m} (b ∷ w) s name value len ks e l h g at =
@@ -51,7 +51,7 @@ defines {begun} {m} (b ∷ w) s name value len ks e l h g at =
 -- a token before a text
 pub takes : {begun : Bool} {m : Macros} (w s : Bytes) (kind : TokenKind) (len : ℕ) (ks : List TokenKind)
     → len ≡ length w → 1 ≤ length w
-    → ((at : ℕ) → Stands m at (w ++ s) begun (opening_of (w ++ s)) (Ok (front.Take kind len)))
+    → ((at : ℕ) → Stands m at (w ++ s) begun (opening_of (w ++ s)) (Ok (scanned.Take kind len)))
     → CutsInto true m s ks → CutsInto begun m (w ++ s) (kind ∷ ks)
 takes [] s kind len ks e l h g at = absurd (omega arith)
 takes {begun} {m} (b ∷ w) s kind len ks e l h g at =
@@ -63,14 +63,14 @@ takes {begun} {m} (b ∷ w) s kind len ks e l h g at =
 pub takes_by : {m : Macros} (w s : Bytes) (kind : TokenKind) (o : Opening) (ks : List TokenKind)
     → 1 ≤ length w
     → opening_of (w ++ s) ≡ o
-    → ((at : ℕ) → Stands m at (w ++ s) true o (Ok (front.Take kind (length w))))
+    → ((at : ℕ) → Stands m at (w ++ s) true o (Ok (scanned.Take kind (length w))))
     → CutsInto true m s ks → CutsInto true m (w ++ s) (kind ∷ ks)
 takes_by {m} w s kind o ks l e h g = takes w s kind (length w) ks refl l (λ at. stands at) g
   where
     stands : (at : ℕ)
-        → Stands m at (w ++ s) true (opening_of (w ++ s)) (Ok (front.Take kind (length w)))
+        → Stands m at (w ++ s) true (opening_of (w ++ s)) (Ok (scanned.Take kind (length w)))
     stands at =
-        subst (λ q. Stands m at (w ++ s) true q (Ok (front.Take kind (length w)))) (sym e) (h at)
+        subst (λ q. Stands m at (w ++ s) true q (Ok (scanned.Take kind (length w)))) (sym e) (h at)
 
 -- ---- a whole text from another place on
 
@@ -115,13 +115,13 @@ pub record Step (begun : Bool) (m : Macros) (at : ℕ) (z : Bytes) (r : Found)
   pub stands : Stands m at (w ++ (x ++ y)) begun (opening_of (w ++ (x ++ y))) r
 
 -- what stands at a place has a byte or more, and lies in the text
-within_size : (at n : ℕ) (f : Front) → IsWithin at n (Ok f) → (1 ≤ size f) × (size f ≤ n)
-within_size at n (front.Pass len) h = h
-within_size at n (front.Define name value len) h = h
-within_size at n (front.Take kind len) h = h
+within_size : (at n : ℕ) (f : Scanned) → IsWithin at n (Ok f) → (1 ≤ size f) × (size f ≤ n)
+within_size at n (scanned.Pass len) h = h
+within_size at n (scanned.Define name value len) h = h
+within_size at n (scanned.Take kind len) h = h
 
 -- each step of a cut
-pub step : {begun : Bool} {m : Macros} {at : ℕ} (b : ℕ) (z : Bytes) (f : Front) (x y : Bytes)
+pub step : {begun : Bool} {m : Macros} {at : ℕ} (b : ℕ) (z : Bytes) (f : Scanned) (x y : Bytes)
     → Stands m at (b ∷ z) begun (opening_of (b ∷ z)) (Ok f) → drop (size f) (b ∷ z) ≡ x ++ y
     → Step begun m at (b ∷ z) (Ok f) x y
 step {begun} {m} {at} b z f x y s e =

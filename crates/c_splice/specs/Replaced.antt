@@ -6,7 +6,7 @@ use Rattle.c_lex.specs.Lexemes.{Lexeme, kinds, end_of}
 use Rattle.c_lex.specs.Places.{IsNowhere, is_refused}
 use Rattle.c_lex.specs.Tokens.{Macros, Lexes}
 use Rattle.c_splice.specs.Seams.{begins_seam, IsTight, IsLoose}
-use Rattle.c_splice.specs.Ends.{is_calm, ends_query, begins_plain, ends_other}
+use Rattle.c_splice.specs.Edges.{is_calm, ends_query, begins_plain, ends_other}
 use Rattle.c_splice.specs.Words.{AllWorded}
 
 -- the bytes from one place to before another
@@ -24,9 +24,9 @@ pub record Fits (before new : Bytes) : Type 0 where
 -- The tokens t and `own` of a source, between the tokens `pre` and `post`: with the macros of the
 -- source's head, their text is cut into them wherever it stands before a seam, and the word of each
 -- constant and name is its token. The text before them ends with `??` only where the token before
--- them is a `?`, and their own only where its last token is one; it is clean. A text that fits there,
--- and is cut into some tokens whatever follows it, can stand in the place of theirs: the source then
--- has the tokens before, those tokens, and the tokens after, but for where they stand.
+-- them is a `?`, and their own only where its last token is one; it is clean. A text that fits
+-- there, and is cut into some tokens whatever follows it, can stand in the place of theirs: the
+-- source then has the tokens before, those tokens, and the tokens after, but for where they stand.
 pub record Replaceable (source : Bytes) (pre : List Lexeme) (t : Lexeme)
     (own post : List Lexeme) : Type 0 where
   pub macros : Macros
@@ -38,7 +38,8 @@ pub record Replaceable (source : Bytes) (pre : List Lexeme) (t : Lexeme)
   pub clean : IsNowhere is_refused (between t.1.from (end_of t own) source)
   pub replaced : (new : Bytes) (ks : List TokenKind) → Fits (take t.1.from source) new
       → IsLoose macros new ks
-      → (ts : List Lexeme) × Lexes (take t.1.from source ++ new ++ drop (end_of t own) source) (Ok ts)
+      → (ts : List Lexeme)
+      × Lexes (take t.1.from source ++ new ++ drop (end_of t own) source) (Ok ts)
       × (kinds ts ≡ kinds pre ++ ks ++ kinds post)
 
 -- all tokens of a source after its first can be replaced

@@ -1,15 +1,14 @@
 -- Texts that are cut into the same tokens wherever they stand.
-use Rattle.std.specs.Prelude.{◌≡◌, ℕ, Bool, true, false, ◌||◌, ◌==◌, List, [], ◌∷◌, ◌++◌, Ok}
+use Rattle.std.specs.Prelude.{◌≡◌, ℕ, Bool, true, false, List, [], ◌∷◌, ◌++◌, Ok, codes}
 use Rattle.c_lex.specs.declared.token.TokenKind.{TokenKind}
-use Rattle.c_lex.specs.Bytes.{Bytes}
+use Rattle.c_lex.specs.Bytes.{Bytes, is_one_of}
 use Rattle.c_lex.specs.Lexemes.{Lexeme, kinds}
 use Rattle.c_lex.specs.Tokens.{Macros, Cuts}
 
--- a seam is a space, a bracket, a comma or a semicolon: no token goes on with one, no comment begins
--- with one, and none is the second byte of a digraph
+-- a seam is a space, a bracket, a comma or a semicolon: no token goes on with one, no comment
+-- begins with one, and none is the second byte of a digraph
 abbrev pub is_seam : ℕ → Bool
-is_seam b =
-    b == 32 || b == 40 || b == 41 || b == 44 || b == 59 || b == 91 || b == 93 || b == 123 || b == 125
+is_seam b = is_one_of (codes " (),;[]{}") b
 
 -- the text begins with a seam
 abbrev pub begins_seam : Bytes → Bool

@@ -11,7 +11,7 @@ use Rattle.c_tree.specs.declared.expr.UnOp.TheVariants.{Plus}
 use Rattle.c_tree.specs.declared.stmt.Ty.{Ty}
 use Rattle.c_tree.specs.declared.stmt.Ty.TheVariants.{Int, Char}
 use Rattle.c_tree.specs.Tree.{Tree, constant, name, index, call, unary, cast, binary, choice, assign, bump, comma, hole, hole_after, bare, no_span}
-use Rattle.c_grammar.specs.declared.part.Part.TheVariants.{Expression, Conditional, Binary, Cast, Unary, Primary}
+use Rattle.c_grammar.specs.declared.nonterminal.Nonterminal.TheVariants.{Expression, Conditional, Binary, Cast, Unary, Primary}
 use Rattle.c_grammar.specs.Operators.{binary_operator, rank, prefix_operator, type_word}
 use Rattle.c_replace.specs.Shapes.{Shaped}
 use Rattle.c_replace.proofs.Shapes as shape

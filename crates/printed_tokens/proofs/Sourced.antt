@@ -7,7 +7,7 @@ use Rattle.c_lex.proofs.Runs.{both_left, both_right}
 use Rattle.c_tree.specs.declared.place.Span.{Span}
 use Rattle.c_tree.specs.Tree as tree
 use Rattle.c_tree.specs.Tree.{Tree, Args, is_pure}
-use Rattle.c_grammar.specs.declared.part.Part.{Part}
+use Rattle.c_grammar.specs.declared.nonterminal.Nonterminal.{Nonterminal}
 use Rattle.c_grammar.specs.Grammar.{Tokens, wrapped, Given, by_value, by_format, by_address, args, Reads, Argument, Arguments}
 use Rattle.c_splice.specs.Words.{Spells, IsWordOf, AllWorded}
 use Rattle.printed_tokens.specs.PrintedKinds.{Printable}
@@ -71,7 +71,7 @@ put_sourced m (by_address e) gs h k = (h, k)
 module _ (m : Macros) where
   mutual
     -- the words of an expression are words of its tokens; and so are those that follow it
-    pub sourced : {N : Part} {r q : ℕ} {a b : Tokens} {t : Tree} → Reads N r a q b t → AllWorded m a
+    pub sourced : {N : Nonterminal} {r q : ℕ} {a b : Tokens} {t : Tree} → Reads N r a q b t → AllWorded m a
         → Sourced m t × AllWorded m b
     sourced Reads.constant h = (h.0, h.1)
     sourced Reads.name h = (h.0, h.1)

@@ -2,8 +2,8 @@
 use Rattle.std.specs.Prelude.{◌≡◌, ℕ, true, List}
 use Rattle.c_lex.specs.Tokens.{Macros}
 use Rattle.c_tree.specs.Tree.{Tree, Outer, bare, is_pure}
-use Rattle.c_grammar.specs.declared.part.Part.{Part}
-use Rattle.c_grammar.specs.declared.part.Part.TheVariants.{Expression}
+use Rattle.c_grammar.specs.declared.nonterminal.Nonterminal.{Nonterminal}
+use Rattle.c_grammar.specs.declared.nonterminal.Nonterminal.TheVariants.{Expression}
 use Rattle.c_grammar.specs.Grammar.{Tokens, Reads}
 use Rattle.c_grammar.specs.Programs.{Derives}
 use Rattle.patch_print.specs.Printed.{printed}
@@ -24,11 +24,12 @@ MakesNoTrigraph = (m : Macros) (t : Tree) → Printable m t → IsSafe (printed 
 
 -- all tokens of its kinds derive it, but for spans, slots and the spelling of constants
 abbrev pub TokensDeriveIt : Type 0
-TokensDeriveIt = (m : Macros) (t : Tree) → Printable m t → Shaped Expression (printed_kinds t) (bare t)
+TokensDeriveIt =
+    (m : Macros) (t : Tree) → Printable m t → Shaped Expression (printed_kinds t) (bare t)
 
 -- the words of an expression are words of the tokens that it is derived from
 abbrev pub ExpressionsSourced : Type 0
-ExpressionsSourced = (m : Macros) (N : Part) (r q : ℕ) (a b : Tokens) (t : Tree)
+ExpressionsSourced = (m : Macros) (N : Nonterminal) (r q : ℕ) (a b : Tokens) (t : Tree)
     → Reads N r a q b t → AllWorded m a → Sourced m t
 
 -- the words of a program are words of the tokens that it is derived from

@@ -66,7 +66,8 @@ abbrev pub printed_kinds : Tree → List TokenKind
 printed_kinds (constant n w s) = kind.Const n w ∷ []
 printed_kinds (name w v s) = kind.Name w ∷ []
 printed_kinds (index w v e s) =
-    kind.Name w ∷ kind.Punct mark.OpenBracket ∷ (printed_kinds e ++ kind.Punct mark.CloseBracket ∷ [])
+    kind.Name w ∷ kind.Punct mark.OpenBracket
+    ∷ (printed_kinds e ++ kind.Punct mark.CloseBracket ∷ [])
 printed_kinds (call w args s) = []
 printed_kinds (unary op e s) = kind.Punct (sign_mark op) ∷ operand_kinds e (printed_kinds e)
 printed_kinds (cast ty e s) =
@@ -85,8 +86,8 @@ printed_kinds (comma l r s) =
 printed_kinds hole = []
 printed_kinds (hole_after e) = []
 
--- a pure expression is printable if the word of each constant and name in it is that token by itself,
--- with these macros
+-- a pure expression is printable if the word of each constant and name in it is that token by
+-- itself, with these macros
 abbrev pub Printable : Macros → Tree → Type 0
 Printable m (constant n w s) = IsWordOf m w (kind.Const n w)
 Printable m (name w v s) = IsWordOf m w (kind.Name w)

@@ -2,7 +2,7 @@
 use Rattle.std.specs.Prelude.{◌≡◌, ◌≤◌, true, length}
 use Rattle.c_lex.specs.Bytes.{Bytes}
 use Rattle.c_lex.specs.Places.{IsNowhere, is_refused}
-use Rattle.c_splice.specs.Ends.{is_calm}
+use Rattle.c_splice.specs.Edges.{is_calm}
 
 -- a text is safe that isn't empty, holds no trigraph and no line splice, and makes none with what
 -- follows it

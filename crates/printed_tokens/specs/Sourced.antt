@@ -8,7 +8,8 @@ use Rattle.c_grammar.specs.Grammar.{Given, by_value, by_format, by_address}
 use Rattle.c_splice.specs.Words.{IsWordOf}
 
 abbrev mutual
-  -- with these macros, the word of each constant and variable of the expression is that token by itself
+  -- with these macros, the word of each constant and variable of the expression is that token by
+  -- itself
   pub Sourced : Macros → Tree → Type 0
   Sourced m (constant n w s) = IsWordOf m w (kind.Const n w)
   Sourced m (name w v s) = IsWordOf m w (kind.Name w)

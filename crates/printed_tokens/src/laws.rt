@@ -13,33 +13,34 @@ ghost use Rattle.printed_tokens.specs.Laws.{
   TokensDeriveIt,
 };
 
-/// The text of a pure expression is cut into its tokens where a seam follows it, if each constant and name
-/// in it is spelled by a word that is that token by itself. (A seam is a space, a bracket, a comma or a
-/// semicolon.)
+/// The text of a pure expression is cut into its tokens where a seam follows it, if each constant
+/// and name in it is spelled by a word that is that token by itself. (A seam is a space, a bracket,
+/// a comma or a semicolon.)
 pub fn cut_into_its_tokens()
     ensures { CutIntoItsTokens }
 {}
 
-/// The text of such an expression isn't empty, holds no trigraph and no line splice, and makes none with
-/// what follows it.
+/// The text of such an expression isn't empty, holds no trigraph and no line splice, and makes none
+/// with what follows it.
 pub fn makes_no_trigraph()
     ensures { MakesNoTrigraph }
 {}
 
-/// All tokens of the kinds that the text of such an expression is cut into derive the expression, but for
-/// spans, slots and the spelling of constants.
+/// All tokens of the kinds that the text of such an expression is cut into derive the expression,
+/// but for spans, slots and the spelling of constants.
 pub fn tokens_derive_it()
     ensures { TokensDeriveIt }
 {}
 
-/// An expression and a program have only words of the tokens that they are derived from: where each of
-/// these is spelled by a word that is that token by itself, so is each of theirs.
+/// An expression and a program have only words of the tokens that they are derived from: where each
+/// of these is spelled by a word that is that token by itself, so is each of theirs.
 pub fn words_of_the_source()
     ensures expressions { ExpressionsSourced }
     ensures programs { ProgramsSourced }
 {}
 
-/// A pure expression of which each constant and name is spelled so has a text that is cut into its tokens.
+/// A pure expression of which each constant and name is spelled so has a text that is cut into its
+/// tokens.
 pub fn pure_prints()
     ensures { PurePrints }
 {}

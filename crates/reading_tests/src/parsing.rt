@@ -1,5 +1,5 @@
-//! Programs as words with a space between them. The words are numbered from 0, and the word n covers the bytes from n
-//! to n + 1.
+//! Programs as words with a space between them. The words are numbered from 0, and the word n
+//! covers the bytes from n to n + 1.
 
 mod faults;
 mod nesting;

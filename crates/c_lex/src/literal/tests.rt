@@ -7,8 +7,8 @@ use super::*;
 use crate::character::character;
 use std::test::Fail;
 
-// The literal at the front of a text.
-fn front_literal(quote: u8, text: &[u8]) -> Option<&[u8]>
+// The literal at the start of a text.
+fn literal_at_start(quote: u8, text: &[u8]) -> Option<&[u8]>
     ensures { IfSome result (λ word. is_quoted quote word.now ≡ true) }
 {
     if text.is_empty() || text[0] != quote {
@@ -71,7 +71,7 @@ fn values_of_characters(rt: HostRuntime) -> Result<(), Fail> {
         (r"'\x7F'", 127),
         (r"'\x00000ff'", -1),
     ] {
-        let word = front_literal(b'\'', word.as_bytes()).ok_or("no literal")?;
+        let word = literal_at_start(b'\'', word.as_bytes()).ok_or("no literal")?;
         assert_eq!(rt; character(word), Some(value), "of {word:?}");
     }
     Ok(())
@@ -83,7 +83,7 @@ fn no_one_character(rt: HostRuntime) -> Result<(), Fail> {
         "''", "'ab'", r"'\0001'", r"'\400'", r"'\777'", r"'\x100'", r"'\x'", r"'\xg'", r"'\8'",
         r"'\c'", r"'\N'", r"'\x41g'", "'\x1f'", "'\x7f'", "'\u{e9}'",
     ] {
-        let word = front_literal(b'\'', word.as_bytes()).ok_or("no literal")?;
+        let word = literal_at_start(b'\'', word.as_bytes()).ok_or("no literal")?;
         assert_eq!(rt; character(word), None, "of {word:?}");
     }
     Ok(())
@@ -106,7 +106,7 @@ fn values_of_strings(rt: HostRuntime) -> Result<(), Fail> {
         (r#""\x41g""#, b"Ag"),
         (r#""\a\b\f\n\r\t\v""#, b"\x07\x08\x0c\n\r\t\x0b"),
     ] {
-        let word = front_literal(b'"', word.as_bytes()).ok_or("no literal")?;
+        let word = literal_at_start(b'"', word.as_bytes()).ok_or("no literal")?;
         let found = characters(rt.alloc(), word)?.ok_or("no characters")?;
         assert_eq!(rt; found.as_slice(), values, "of {word:?}");
     }
@@ -124,7 +124,7 @@ fn no_characters(rt: HostRuntime) -> Result<(), Fail> {
         r#""\c""#,
         r#""ok\z""#,
     ] {
-        let word = front_literal(b'"', word.as_bytes()).ok_or("no literal")?;
+        let word = literal_at_start(b'"', word.as_bytes()).ok_or("no literal")?;
         let found = characters(rt.alloc(), word)?;
         assert!(rt; found.is_none(), "of {word:?}");
     }

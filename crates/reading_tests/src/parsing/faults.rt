@@ -1,4 +1,5 @@
-//! The first faults of sources: their places are counted by hand, or follow from where a source was cut or changed.
+//! The first faults of sources: their places are counted by hand, or follow from where a source was
+//! cut or changed.
 
 use c_lex::{Token, lex};
 use c_parse::{ParseFault, parse};
@@ -91,7 +92,7 @@ fn replaced(alloc: Global, source: &[u8], at: Span, text: &[u8]) -> Result<Vec<u
 }
 
 #[test]
-fn a_front_of_a_program_has_its_fault_at_the_end(rt: HostRuntime) -> Result<(), Fail> {
+fn a_prefix_of_a_program_has_its_fault_at_the_end(rt: HostRuntime) -> Result<(), Fail> {
     let alloc = rt.alloc();
     let (source, begins) = program(alloc)?;
     assert_eq!(rt; fault(alloc, &source)?, None);
@@ -104,8 +105,8 @@ fn a_front_of_a_program_has_its_fault_at_the_end(rt: HostRuntime) -> Result<(), 
                 want = None;
             }
         }
-        let front = source.get(..cut as usize).ok_or("no such place")?;
-        assert_eq!(rt; fault(alloc, front)?, want, "at {cut}");
+        let prefix = source.get(..cut as usize).ok_or("no such place")?;
+        assert_eq!(rt; fault(alloc, prefix)?, want, "at {cut}");
     }
     Ok(())
 }

@@ -7,8 +7,9 @@ use std::alloc::Global;
 use std::process::Abort;
 use std::test::Fail;
 
-// So many copies of `opener`, what stands inside, and so many of `closer`. With `most` copies the nesting is 64 at the
-// deepest; with one copy more the 65th opener stands `at` bytes behind the begin of the last copy.
+// So many copies of `opener`, what stands inside, and so many of `closer`. With `most` copies the
+// nesting is 64 at the deepest; with one copy more the 65th opener stands `at` bytes after the
+// begin of the last copy.
 #[derive(Clone, Copy)]
 struct Nest {
     before: &'static str,
@@ -70,8 +71,8 @@ fn length(text: &str) -> Result<u32, Fail> {
 }
 
 fn sixty_four_at_most(rt: &impl Abort, alloc: Global, row: &Nest) -> Result<(), Fail> {
-    let lawful = source(alloc, row, row.most)?;
-    assert_eq!(rt; fault(alloc, &lawful)?, None, "at {}", row.opener);
+    let valid = source(alloc, row, row.most)?;
+    assert_eq!(rt; fault(alloc, &valid)?, None, "at {}", row.opener);
     let deeper = source(alloc, row, row.most.wrapping_add(1))?;
     let place = length(row.before)?
         .wrapping_add(row.most.wrapping_mul(length(row.opener)?))
@@ -188,8 +189,8 @@ fn the_opener_itself_is_too_deep(rt: HostRuntime) -> Result<(), Fail> {
         62,
         0,
     );
-    let lawful = source(alloc, &again, 62)?;
-    assert_eq!(rt; fault(alloc, &lawful)?, None);
+    let valid = source(alloc, &again, 62)?;
+    assert_eq!(rt; fault(alloc, &valid)?, None);
     Ok(())
 }
 

@@ -24,7 +24,7 @@ fn add_span(alloc: Global, out: &mut Vec<u8>, span: Span) -> Result<(), NoMemory
 
 // What stands before an expression, and the expression.
 #[cycle(show_expr)]
-fn show_behind(alloc: Global, out: &mut Vec<u8>, before: &str, e: &Expr) -> Result<(), NoMemory> {
+fn show_after(alloc: Global, out: &mut Vec<u8>, before: &str, e: &Expr) -> Result<(), NoMemory> {
     add(out, b"[")?;
     add(out, before.as_bytes())?;
     show_expr(alloc, out, e)?;
@@ -41,7 +41,7 @@ fn show_args(alloc: Global, out: &mut Vec<u8>, args: &[Arg]) -> Result<(), NoMem
                 add(out, text.as_slice())?;
                 add_span(alloc, out, *span)?;
             }
-            Arg::Address(e) => show_behind(alloc, out, "&", e)?,
+            Arg::Address(e) => show_after(alloc, out, "&", e)?,
         }
     }
     Ok(())
@@ -52,15 +52,15 @@ fn show_prefix(alloc: Global, out: &mut Vec<u8>, node: &ExprNode) -> Result<(), 
     match node {
         ExprNode::Unary { op, of } => {
             let sign = format!(in alloc; "{op:?} ")?;
-            show_behind(alloc, out, sign.as_str(), of)
+            show_after(alloc, out, sign.as_str(), of)
         }
         ExprNode::Cast { ty, of } => {
             let sign = format!(in alloc; "{ty:?} ")?;
-            show_behind(alloc, out, sign.as_str(), of)
+            show_after(alloc, out, sign.as_str(), of)
         }
         ExprNode::Bump { before, up, place } => {
             let sign = format!(in alloc; "{before} {up} ")?;
-            show_behind(alloc, out, sign.as_str(), place)
+            show_after(alloc, out, sign.as_str(), place)
         }
         _ => add(out, b"?"),
     }
@@ -97,7 +97,7 @@ fn show_expr(alloc: Global, out: &mut Vec<u8>, e: &Expr) -> Result<(), NoMemory>
         ExprNode::Name { word, .. } => add(out, word.as_slice())?,
         ExprNode::Index { word, index, .. } => {
             add(out, word.as_slice())?;
-            show_behind(alloc, out, "", index)?;
+            show_after(alloc, out, "", index)?;
         }
         ExprNode::Call { word, args } => {
             add(out, word.as_slice())?;
@@ -106,7 +106,7 @@ fn show_expr(alloc: Global, out: &mut Vec<u8>, e: &Expr) -> Result<(), NoMemory>
             add(out, b")")?;
         }
         ExprNode::Choice { test, yes, no } => {
-            show_behind(alloc, out, "? ", test)?;
+            show_after(alloc, out, "? ", test)?;
             add(out, b"[")?;
             show_expr(alloc, out, yes)?;
             add(out, b" : ")?;
@@ -126,10 +126,10 @@ fn show_expr(alloc: Global, out: &mut Vec<u8>, e: &Expr) -> Result<(), NoMemory>
 fn show_start(alloc: Global, out: &mut Vec<u8>, start: &Start) -> Result<(), NoMemory> {
     match start {
         Start::Bare => Ok(()),
-        Start::One(e) => show_behind(alloc, out, "= ", e),
+        Start::One(e) => show_after(alloc, out, "= ", e),
         Start::List(es) => {
             for e in es {
-                show_behind(alloc, out, ", ", e)?;
+                show_after(alloc, out, ", ", e)?;
             }
             Ok(())
         }
@@ -152,7 +152,7 @@ fn show_names(alloc: Global, out: &mut Vec<u8>, names: &[Declarator]) -> Result<
 
 fn show_optional(alloc: Global, out: &mut Vec<u8>, e: &Option<Expr>) -> Result<(), NoMemory> {
     match e {
-        Some(e) => show_behind(alloc, out, "", e),
+        Some(e) => show_after(alloc, out, "", e),
         None => add(out, b"-"),
     }
 }
@@ -160,7 +160,7 @@ fn show_optional(alloc: Global, out: &mut Vec<u8>, e: &Option<Expr>) -> Result<(
 fn show_init(alloc: Global, out: &mut Vec<u8>, init: &Init) -> Result<(), NoMemory> {
     match init {
         Init::Empty => add(out, b"-"),
-        Init::Act(e) => show_behind(alloc, out, "", e),
+        Init::Act(e) => show_after(alloc, out, "", e),
         Init::Vars(ty, names) => {
             let text = format!(in alloc; "{ty:?}")?;
             add(out, text.as_bytes())?;
@@ -173,13 +173,13 @@ fn show_init(alloc: Global, out: &mut Vec<u8>, init: &Init) -> Result<(), NoMemo
 fn show_loop(alloc: Global, out: &mut Vec<u8>, node: &StmtNode) -> Result<(), NoMemory> {
     match node {
         StmtNode::While { test, body } => {
-            show_behind(alloc, out, "while ", test)?;
+            show_after(alloc, out, "while ", test)?;
             show_stmt(alloc, out, body)
         }
         StmtNode::Do { body, test } => {
             add(out, b"do ")?;
             show_stmt(alloc, out, body)?;
-            show_behind(alloc, out, "", test)
+            show_after(alloc, out, "", test)
         }
         StmtNode::For {
             init,
@@ -209,7 +209,7 @@ fn show_stmt(alloc: Global, out: &mut Vec<u8>, s: &Stmt) -> Result<(), NoMemory>
             add(out, b"}")?;
         }
         StmtNode::If { test, yes, no } => {
-            show_behind(alloc, out, "if ", test)?;
+            show_after(alloc, out, "if ", test)?;
             show_stmt(alloc, out, yes)?;
             if let Some(no) = no {
                 add(out, b" else ")?;

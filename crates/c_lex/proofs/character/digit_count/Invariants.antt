@@ -1,4 +1,4 @@
--- What is counted and what still goes on are all the digits at the front.
+-- What is counted and what still goes on are all the digits at the start.
 use Rattle.std.proofs.Common.{◌≡◌, ◌+◌, ◌-◌, ◌≤◌, length, drop}
 use Rattle.c_lex.specs.LiteralReading.{digit_count}
 use Rattle.c_lex.proofs.character.digit_count.Given as goal

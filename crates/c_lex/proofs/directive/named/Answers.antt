@@ -3,7 +3,7 @@ use Rattle.std.proofs.Common.{length, sym, subst}
 use Rattle.c_lex.specs.Reading.{Knows}
 use Rattle.c_lex.specs.DirectiveReading.{definition_of, BeginsName}
 use Rattle.c_lex.specs.Tokens.{Macros, Defines, Says}
-use Rattle.c_lex.proofs.FrontParts.{finds_map}
+use Rattle.c_lex.proofs.ScanParts.{finds_map}
 use Rattle.c_lex.proofs.Forms.{define_is}
 use Rattle.c_lex.proofs.DirectiveParts.{unknown_name, answers_valued}
 use Rattle.c_lex.proofs.directive.named.Goals as goal

@@ -4,7 +4,7 @@ use Rattle.std.proofs.lemmas.Result.{err_from_is_err_and}
 use Rattle.c_lex.specs.Directives.{HasLine}
 use Rattle.c_lex.specs.Reading.{Knows}
 use Rattle.c_lex.specs.Tokens.{Macros, Says, IsDirective}
-use Rattle.c_lex.proofs.FrontParts.{finds_map}
+use Rattle.c_lex.proofs.ScanParts.{finds_map}
 use Rattle.c_lex.proofs.Sizes.{line_size}
 use Rattle.c_lex.proofs.directive.read_directive.Goals as goal
 

@@ -1,4 +1,4 @@
--- What stands behind the blanks of the rest stands behind those of the text.
+-- What stands after the blanks of the rest stands after those of the text.
 use Rattle.std.proofs.Common.{◌≡◌, ◌-◌, ◌≤◌, length, drop}
 use Rattle.c_lex.specs.DirectiveReading as spec
 use Rattle.c_lex.proofs.form.skip.Given as goal

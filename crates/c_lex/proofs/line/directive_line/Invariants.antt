@@ -1,4 +1,4 @@
--- What the rest of the text gives stands behind the line so far.
+-- What the rest of the text gives stands after the line so far.
 use Rattle.std.proofs.Common.{◌≡◌, ℕ, ◌-◌, ◌≤◌, Result, length, drop}
 use Rattle.c_lex.specs.Bytes.{Bytes}
 use Rattle.c_lex.specs.Directives.{before_line, HasLine}

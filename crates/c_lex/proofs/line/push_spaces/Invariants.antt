@@ -1,4 +1,4 @@
--- So many spaces stand behind the line already.
+-- So many spaces stand after the line already.
 use Rattle.std.proofs.Common.{◌≡◌, ◌++◌}
 use Rattle.c_lex.specs.Directives.{spaces}
 use Rattle.c_lex.proofs.line.push_spaces.Given as goal

@@ -1,6 +1,6 @@
 use Rattle.std.proofs.Common.{◌-◌, map}
 use Rattle.c_tree.specs.Views.{variable}
-use Rattle.c_grammar.specs.Leads.{never}
+use Rattle.c_grammar.specs.Terminals.{never}
 use Rattle.c_grammar.specs.Descent.{all_listed}
 use Rattle.c_grammar.specs.ProgramDescent.{declarator}
 use Rattle.c_parse.proofs.Turns.{ListRead}

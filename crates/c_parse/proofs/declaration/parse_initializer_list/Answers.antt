@@ -1,7 +1,7 @@
 use Rattle.std.proofs.Common.{rules, arith, ◌≡◌, true, false, ap, map}
 use Rattle.std.proofs.lemmas.Result.{err_from_is_err_and}
 use Rattle.c_tree.specs.Views.{tree}
-use Rattle.c_grammar.specs.Leads.{front, is_comma, is_close_brace}
+use Rattle.c_grammar.specs.Terminals.{lookahead, is_comma, is_close_brace}
 use Rattle.c_parse.proofs.Shapes.{map-push}
 use Rattle.c_parse.proofs.Turns.{list_begins, part_fails, part_ends, comma_fails, comma_ends, comma_goes, list_ends}
 use Rattle.c_parse.proofs.declaration.parse_initializer_list.Goals as goal
@@ -19,12 +19,12 @@ returns-in_err-next c =
 
 pub returns-then-not-is_at_comma : goal.returns-then-not-is_at_comma
 returns-then-not-is_at_comma c =
-    let k : is_comma (front c.parse_expression.new.cursor.rest.now) ≡ false = search rules in
+    let k : is_comma (lookahead c.parse_expression.new.cursor.rest.now) ≡ false = search rules in
     part_ends _ c.loop-turn._turn c.loop-turn-test.true c.loop-turn.invariant c.in_ok-next.ensures k (map-push tree _ _ _ c.in_ok-push.ensures.items)
 
 pub returns-in_err-advance : goal.returns-in_err-advance
 returns-in_err-advance c =
-    let k : is_comma (front c.parse_expression.new.cursor.rest.now) ≡ true = search rules in
+    let k : is_comma (lookahead c.parse_expression.new.cursor.rest.now) ≡ true = search rules in
     let p = err_from_is_err_and c.from_residual-in_err-advance.result c.from_residual-in_err-advance.ensures.1 in
     rw (p.1, p.2)
     (λ h.
@@ -34,15 +34,15 @@ returns-in_err-advance c =
 
 pub returns-then-is_at_close_brace : goal.returns-then-is_at_close_brace
 returns-then-is_at_close_brace c =
-    let k : is_comma (front c.parse_expression.new.cursor.rest.now) ≡ true = search rules in
-    let d : is_close_brace (front c.advance.new.self.rest.now) ≡ true = search rules in
+    let k : is_comma (lookahead c.parse_expression.new.cursor.rest.now) ≡ true = search rules in
+    let d : is_close_brace (lookahead c.advance.new.self.rest.now) ≡ true = search rules in
     comma_ends _ c.loop-turn._turn c.loop-turn-test.true c.loop-turn.invariant c.in_ok-next.ensures k c.in_ok-advance.ensures d
     (map-push tree _ _ _ c.in_ok-push.ensures.items)
 
 pub loop-turn-preserved : goal.loop-turn-preserved
 loop-turn-preserved c =
-    let k : is_comma (front c.parse_expression.new.cursor.rest.now) ≡ true = search rules in
-    let d : is_close_brace (front c.advance.new.self.rest.now) ≡ false = search rules in
+    let k : is_comma (lookahead c.parse_expression.new.cursor.rest.now) ≡ true = search rules in
+    let d : is_close_brace (lookahead c.advance.new.self.rest.now) ≡ false = search rules in
     comma_goes _ c.loop-turn._turn c.loop-turn-test.true c.loop-turn.invariant c.in_ok-next.ensures k c.in_ok-advance.ensures d
     (map-push tree _ _ _ c.in_ok-push.ensures.items)
 

@@ -1,7 +1,7 @@
 use Rattle.std.proofs.Common.{◌-◌, map}
 use Rattle.c_tree.specs.Views.{tree}
-use Rattle.c_grammar.specs.Leads.{is_close_brace}
-use Rattle.c_grammar.specs.declared.part.Part.TheVariants.{Assignment}
+use Rattle.c_grammar.specs.Terminals.{is_close_brace}
+use Rattle.c_grammar.specs.declared.nonterminal.Nonterminal.TheVariants.{Assignment}
 use Rattle.c_grammar.specs.Descent.{all_listed}
 use Rattle.c_grammar.specs.ProgramDescent.{value}
 use Rattle.c_parse.proofs.Turns.{ListRead}

@@ -1,6 +1,6 @@
 use Rattle.std.proofs.Common.{rules, arith, ◌≡◌, true, false, refl}
 use Rattle.std.proofs.lemmas.Result.{err_from_is_err_and}
-use Rattle.c_grammar.specs.Leads.{front, is_comma}
+use Rattle.c_grammar.specs.Terminals.{lookahead, is_comma}
 use Rattle.c_parse.proofs.Turns.{list_begins, part_fails, part_ends, comma_fails, comma_goes, list_ends}
 use Rattle.c_parse.proofs.program.parse_parameter_list.Goals as goal
 
@@ -17,12 +17,12 @@ returns-in_err-next c =
 
 pub returns-then-not-is_at_comma : goal.returns-then-not-is_at_comma
 returns-then-not-is_at_comma c =
-    let k : is_comma (front c.parse_parameter.new.cursor.rest.now) ≡ false = search rules in
+    let k : is_comma (lookahead c.parse_parameter.new.cursor.rest.now) ≡ false = search rules in
     part_ends _ c.loop-turn._turn c.loop-turn-test.true c.loop-turn.invariant c.in_ok-next.ensures k c.in_ok-push.ensures.items
 
 pub returns-in_err-advance : goal.returns-in_err-advance
 returns-in_err-advance c =
-    let k : is_comma (front c.parse_parameter.new.cursor.rest.now) ≡ true = search rules in
+    let k : is_comma (lookahead c.parse_parameter.new.cursor.rest.now) ≡ true = search rules in
     let p = err_from_is_err_and c.from_residual-in_err-advance.result c.from_residual-in_err-advance.ensures.1 in
     rw (p.1, p.2)
     (λ h.
@@ -32,7 +32,7 @@ returns-in_err-advance c =
 
 pub loop-turn-preserved : goal.loop-turn-preserved
 loop-turn-preserved c =
-    let k : is_comma (front c.parse_parameter.new.cursor.rest.now) ≡ true = search rules in
+    let k : is_comma (lookahead c.parse_parameter.new.cursor.rest.now) ≡ true = search rules in
     comma_goes _ c.loop-turn._turn c.loop-turn-test.true c.loop-turn.invariant c.in_ok-next.ensures k c.in_ok-advance.ensures refl
     c.in_ok-push.ensures.items
 

@@ -1,5 +1,5 @@
 use Rattle.std.proofs.Common.{◌-◌}
-use Rattle.c_grammar.specs.Leads.{never}
+use Rattle.c_grammar.specs.Terminals.{never}
 use Rattle.c_grammar.specs.Descent.{all_listed}
 use Rattle.c_grammar.specs.ProgramDescent.{param}
 use Rattle.c_parse.proofs.Turns.{ListRead}

@@ -1,7 +1,7 @@
 use Rattle.std.proofs.Common.{rules, arith, ◌≡◌, ◌<◌, true, false, sym, ap, ◌∙◌, subst}
 use Rattle.std.proofs.lemmas.Result.{err_from_is_err_and}
 use Rattle.c_tree.specs.Views.{code, body_of}
-use Rattle.c_grammar.specs.Leads.{front, is_close_brace, is_else}
+use Rattle.c_grammar.specs.Terminals.{lookahead, is_close_brace, is_else}
 use Rattle.c_grammar.specs.Descent.{found}
 use Rattle.c_parse.specs.Gives.{Gives}
 use Rattle.c_parse.proofs.Shapes.{body_of-push}
@@ -33,7 +33,7 @@ parse_block-returns t c =
 
 pub parse_if-returns-in_err-no : goal.parse_if-returns-in_err-no
 parse_if-returns-in_err-no t c =
-    let k : is_else (front c.parse_inner_statement.new.cursor.rest.now) ≡ true = search rules in
+    let k : is_else (lookahead c.parse_inner_statement.new.cursor.rest.now) ≡ true = search rules in
     let p = err_from_is_err_and c.from_residual-in_err-no.result c.from_residual-in_err-no.ensures.1 in
     rw (p.1, p.2)
     (λ h.
@@ -53,12 +53,12 @@ parse_block_items-loop-turn-init t c = items_begin (ap body_of c.new-items.ensur
 
 pub parse_block_items-returns-then-is_at_close_brace : goal.parse_block_items-returns-then-is_at_close_brace
 parse_block_items-returns-then-is_at_close_brace t c =
-    let k : is_close_brace (front c.loop-turn.cursor.rest.now) ≡ true = search rules in
+    let k : is_close_brace (lookahead c.loop-turn.cursor.rest.now) ≡ true = search rules in
     items_end _ c.loop-turn._turn c.loop-turn-test.true c.loop-turn.invariant k
 
 pub parse_block_items-returns-in_err-next : goal.parse_block_items-returns-in_err-next
 parse_block_items-returns-in_err-next t c =
-    let k : is_close_brace (front c.loop-turn.cursor.rest.now) ≡ false = search rules in
+    let k : is_close_brace (lookahead c.loop-turn.cursor.rest.now) ≡ false = search rules in
     let p = err_from_is_err_and c.from_residual.result c.from_residual.ensures.1 in
     rw (p.1, p.2)
     (λ h.
@@ -67,7 +67,7 @@ parse_block_items-returns-in_err-next t c =
 
 pub parse_block_items-loop-turn-preserved : goal.parse_block_items-loop-turn-preserved
 parse_block_items-loop-turn-preserved t c =
-    let k : is_close_brace (front c.loop-turn.cursor.rest.now) ≡ false = search rules in
+    let k : is_close_brace (lookahead c.loop-turn.cursor.rest.now) ≡ false = search rules in
     item_goes _ c.loop-turn._turn c.loop-turn-test.true c.loop-turn.invariant k c.in_ok-next.ensures
     (ap body_of c.in_ok-push.ensures.items ∙ body_of-push _ _)
 

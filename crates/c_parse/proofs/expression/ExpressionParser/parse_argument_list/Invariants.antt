@@ -1,6 +1,6 @@
 use Rattle.std.proofs.Common.{◌-◌, map}
 use Rattle.c_parse.specs.Gives.{given}
-use Rattle.c_grammar.specs.Leads.{never}
+use Rattle.c_grammar.specs.Terminals.{never}
 use Rattle.c_grammar.specs.Descent.{argument, run, all_listed}
 use Rattle.c_parse.proofs.Turns.{ListRead}
 use Rattle.c_parse.proofs.expression.ExpressionParser.parse_argument_list.Given as goal

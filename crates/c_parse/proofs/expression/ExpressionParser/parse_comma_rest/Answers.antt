@@ -1,17 +1,17 @@
 use Rattle.std.proofs.Common.{rules, ◌≡◌, true, false}
 use Rattle.std.proofs.lemmas.Result.{err_from_is_err_and}
-use Rattle.c_grammar.specs.Leads.{front, is_comma}
+use Rattle.c_grammar.specs.Terminals.{lookahead, is_comma}
 use Rattle.c_parse.proofs.Turns.{comma_absent, comma_unopened, right_fails, right_goes, commas_end}
 use Rattle.c_parse.proofs.expression.ExpressionParser.parse_comma_rest.Goals as goal
 
 pub returns-then-not-is_at_comma : goal.returns-then-not-is_at_comma
 returns-then-not-is_at_comma g c =
-    let k : is_comma (front c.loop-turn.cursor.rest.now) ≡ false = search rules in
+    let k : is_comma (lookahead c.loop-turn.cursor.rest.now) ≡ false = search rules in
     comma_absent _ c.loop-turn._turn c.loop-turn-test.true c.loop-turn.invariant k
 
 pub returns-in_err-open : goal.returns-in_err-open
 returns-in_err-open g c =
-    let k : is_comma (front c.loop-turn.cursor.rest.now) ≡ true = search rules in
+    let k : is_comma (lookahead c.loop-turn.cursor.rest.now) ≡ true = search rules in
     let p = err_from_is_err_and c.from_residual.result c.from_residual.ensures.1 in
     rw (p.1, p.2)
     (λ h.
@@ -20,7 +20,7 @@ returns-in_err-open g c =
 
 pub returns-in_err-right : goal.returns-in_err-right
 returns-in_err-right g c =
-    let k : is_comma (front c.loop-turn.cursor.rest.now) ≡ true = search rules in
+    let k : is_comma (lookahead c.loop-turn.cursor.rest.now) ≡ true = search rules in
     let p = err_from_is_err_and c.from_residual-in_err-right.result c.from_residual-in_err-right.ensures.1 in
     rw (p.1, p.2)
     (λ h.
@@ -30,7 +30,7 @@ returns-in_err-right g c =
 
 pub loop-turn-preserved : goal.loop-turn-preserved
 loop-turn-preserved g c =
-    let k : is_comma (front c.loop-turn.cursor.rest.now) ≡ true = search rules in
+    let k : is_comma (lookahead c.loop-turn.cursor.rest.now) ≡ true = search rules in
     right_goes _ c.loop-turn._turn c.loop-turn-test.true c.loop-turn.invariant k c.in_ok-open.ensures c.in_ok-right.ensures c.in_ok-left.ensures
 
 pub returns : goal.returns

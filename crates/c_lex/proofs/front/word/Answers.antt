@@ -1,9 +1,0 @@
--- The longest word at the front.
-use Rattle.c_lex.proofs.Longest.{word_front}
-use Rattle.c_lex.proofs.FrontParts.{word_stands}
-use Rattle.c_lex.proofs.front.word.Goals as goal
-
-pub returns : goal.returns
-returns c = λ m at begun known.
-    let front = word_front c.args.text.now c.run_len-len.result c.requires.some c.requires.letter c.run_len-len.ensures.value in
-    word_stands m at c.args.text.now begun c.in_ok-kind.kind c.run_len-len.result c.run_len-len.ensures.within front.0 (c.in_ok-kind.ensures m known)
