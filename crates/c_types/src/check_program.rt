@@ -1,81 +1,65 @@
 //! The check of a whole program.
 
-ghost use Rattle.std.specs.Prelude.{◌≡◌, [], ◌∷◌, IfOk, IfErr, OnOk, MatchOption, MatchResult};
-ghost use Rattle.c_tree.specs.Tree.{outer_func};
-ghost use Rattle.c_tree.specs.Views.{program as tree_program, function};
-ghost use Rattle.c_types.specs.Faults.{Causes};
-ghost use Rattle.c_types.specs.Names.{IsWellNamed, IsWellNamedFunction, resolved, resolved_function};
+ghost use Rattle.std.specs.Prelude.{◌≡◌, ◌≤◌, Some, [], List, IfOk, IfErr, IfSome, OnOk};
+ghost use Rattle.c_tree.specs.Order.{ProgramIn};
+ghost use Rattle.c_tree.specs.Views.{program as tree_program};
+ghost use Rattle.c_types.specs.declared.fault.Fault.{Fault};
+ghost use Rattle.c_types.specs.FaultWords.{place_of};
+ghost use Rattle.c_types.specs.Least.{Causes, IsFirst};
+ghost use Rattle.c_types.specs.Programs.{program_faults};
 ghost use Rattle.c_types.specs.Shown.{tree_of};
+ghost use Rattle.c_types.specs.Slots.{resolved};
 
-use crate::fault::TypeFault;
-use crate::known::knows_items;
-use crate::names::Names;
-use crate::resolve::resolve_items;
+use crate::fault::{Fault, FaultKind, TypeFault};
+use crate::program::program_faults;
+use crate::resolve_file::resolve;
 use crate::typed::Typed;
-use c_tree::{External, Func, Program};
+use c_tree::Program;
 use std::alloc::Global;
 
-/// Checks that the program is one function with a body, that the names which it declares all differ, and that each
-/// variable which it names is declared (C11 6.2.1, 6.5.1); gives each name its variable, numbered in text order.
-/// `_end` is the length of the source in bytes; the faults of this stage have no place, so it is not read.
+impl Fault {
+    /// The fault as a refusal of the program.
+    fn refusal(self) -> TypeFault
+        ensures causes { (fs : List Fault) → IsFirst fs self → Causes result fs }
+        ensures place { place_of result ≡ Some self.place }
+    {
+        let place = self.place;
+        match self.kind {
+            FaultKind::Unknown => TypeFault::Unknown(place),
+            FaultKind::Twice => TypeFault::Twice(place),
+            FaultKind::WrongKind => TypeFault::WrongKind(place),
+            FaultKind::WrongCount => TypeFault::WrongCount(place),
+            FaultKind::NotPlace => TypeFault::NotPlace(place),
+            FaultKind::NotConstant => TypeFault::NotConstant(place),
+            FaultKind::BadArrayLength => TypeFault::BadArrayLength(place),
+            FaultKind::LoopOnly => TypeFault::LoopOnly(place),
+            FaultKind::BadFormat => TypeFault::BadFormat(place),
+            FaultKind::NoMain => TypeFault::NoMain(place),
+        }
+    }
+}
+
+/// Checks the scopes and kinds of a program (C11 6.2.1, 6.5, 6.7, 6.8, 6.9), whose parts stand in text order
+/// in a source of that length, and gives each name the slot of the variable that it denotes.
 ///
 /// # Errors
 ///
-/// `Unsupported` where the program is not so, and `NoMemory` where memory runs out.
-pub fn check(alloc: Global, program: Program, _end: u32) -> Result<Typed, TypeFault>
-    ensures accepted { OnOk result (IsWellNamed (tree_program program)) }
+/// The first of the program's faults by place, at one place by the order of `TypeFault`, and `NoMemory` where memory
+/// runs out.
+pub fn check(alloc: Global, program: Program, end: u32) -> Result<Typed, TypeFault>
+    requires ordered { ProgramIn 0 end (tree_program program) }
+    ensures accepted { OnOk result (program_faults (tree_program program) end ≡ []) }
     ensures resolved { IfOk result (λ typed. tree_of typed ≡ resolved (tree_program program)) }
-    ensures refused { IfErr result (λ fault. Causes fault (tree_program program)) }
+    ensures refused { IfErr result (λ fault. Causes fault (program_faults (tree_program program) end)) }
+    ensures placed { IfErr result (λ fault. IfSome (place_of fault) (λ place. place ≤ end)) }
 {
-    let Some(only) = only_function(program) else {
-        return Err(TypeFault::Unsupported);
-    };
-    let main = check_function(alloc, only)?;
-    let mut externals = Vec::new(alloc);
-    externals.push(External::Func(main))?;
-    Ok(Typed::new(Program { externals }))
-}
-
-/// The function that the program is, if it is one function.
-fn only_function(program: Program) -> Option<Func>
-    ensures { MatchOption result (IsWellNamed (tree_program program) → ⊥) (λ only. tree_program program ≡ outer_func (function only) ∷ []) }
-{
-    let Program { mut externals } = program;
-    if externals.len() != 1 {
-        return None;
+    let found = program_faults(alloc, &program.externals, end)?;
+    match found.fault {
+        Some(fault) => Err(fault.refusal()),
+        None => {
+            let mut checked = program;
+            resolve(alloc, &mut checked)?;
+            Ok(Typed::new(checked))
+        }
     }
-    match externals.pop() {
-        Some(External::Func(only)) => Some(only),
-        _ => None,
-    }
-}
-
-/// The function in which each name has its variable, if it is a definition that uses the names that it declares.
-fn check_function(alloc: Global, only: Func) -> Result<Func, TypeFault>
-    ensures accepted { OnOk result (IsWellNamedFunction (function only)) }
-    ensures resolved { IfOk result (λ main. function main ≡ resolved_function (function only)) }
-    ensures refused { IfErr result (λ fault. Causes fault (outer_func (function only) ∷ [])) }
-{
-    let Func {
-        word,
-        span,
-        ret,
-        params,
-        body,
-    } = only;
-    let Some(items) = body else {
-        return Err(TypeFault::Unsupported);
-    };
-    let names = Names::declared_in(alloc, &items)?;
-    if !names.are_distinct() || !knows_items(&names, &items) {
-        return Err(TypeFault::Unsupported);
-    }
-    let body = resolve_items(alloc, &names, &items)?;
-    Ok(Func {
-        word,
-        span,
-        ret,
-        params,
-        body: Some(body),
-    })
 }

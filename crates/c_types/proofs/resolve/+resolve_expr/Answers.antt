@@ -1,20 +1,25 @@
-use Rattle.std.proofs.Common.{◌≡◌, List, [], ap, ◌∙◌, arith, drop}
+use Rattle.std.proofs.Common.{ap, ◌∙◌, refl, arith}
 use Rattle.std.proofs.lemmas.Grind.{common_steps}
-use Rattle.c_tree.specs.declared.expr.Arg.{Arg}
-use Rattle.c_tree.specs.Views.{args_of}
-use Rattle.c_types.specs.Names.{resolved_args}
-use Rattle.c_types.proofs.ResolveLemmas.{args_more, args_all, resolved-Call}
+use Rattle.std.proofs.lemmas.List.{with_items_is}
+use Rattle.c_tree.specs.Views.{args_of, with_arg}
+use Rattle.c_types.specs.Scopes.{in_scope}
+use Rattle.c_types.specs.Slots.{resolved_args}
+use Rattle.c_types.proofs.ResolveLemmas.{changed_more, changed_all, resolved_call}
 use Rattle.c_types.proofs.resolve.+resolve_expr.Goals as goal
 
 pub resolve_args-loop-arg-preserved : goal.resolve_args-loop-arg-preserved
-resolve_args-loop-arg-preserved t c =
-    rw c.in_ok-push.ensures.items (args_more c.args.names.now c.loop-arg.out.items c.args.args.now c.loop-arg.arg-index c.arg-item.result c.in_ok-resolve_arg.field-0 (omega arith) c.arg-item.is c.in_ok-resolve_arg.ensures c.loop-arg.invariant)
+resolve_args-loop-arg-preserved t c = (
+  grind (arith, common_steps, c.loop-arg.invariant.0),
+  changed_more args_of with_arg (λ x xs. refl) (resolved_args (in_scope c.args.scope.now)) (resolved_args (in_scope c.args.scope.now)) c.loop-arg.arg-items c.loop-arg.arg-index c.arg-item.result c.resolve_arg.new.arg _ (omega arith) c.resolve_arg.ensures c.loop-arg.invariant.1,
+)
 
 pub resolve_args-returns : goal.resolve_args-returns
 resolve_args-returns t c =
-    let none : drop c.loop-arg.arg-index c.args.args.now ≡ [] = grind (arith, common_steps) in
-    args_all c.args.names.now c.loop-arg.out.items c.args.args.now c.loop-arg.arg-index none c.loop-arg.invariant
+    changed_all args_of with_arg (λ x xs. refl) (resolved_args (in_scope c.args.scope.now)) refl c.loop-arg.arg-items c.loop-arg.arg-index _ (omega arith) c.loop-arg.invariant.1
 
-pub resolve_expr-returns-in_ok-resolve_args-in-Call : goal.resolve_expr-returns-in_ok-resolve_args-in-Call
-resolve_expr-returns-in_ok-resolve_args-in-Call t c =
-    resolved-Call c.args.names.now c.args.e.now c.in-Call.word _ c.in-Call.args c.in_ok-resolve_args-in-Call.field-0 c.in-Call.is c.in_ok-copy_text-in-Call.ensures (c.in_ok-resolve_args-in-Call.ensures ∙ ap (λ (args : List Arg). resolved_args c.args.names.now (args_of args)) c.deref-in-Call.ensures.value)
+pub resolved_node-returns-in-Call : goal.resolved_node-returns-in-Call
+resolved_node-returns-in-Call t c =
+    resolved_call (in_scope c.args.scope.now) c.args.node c.in-Call.word c.in-Call.args _ c.in-Call.is (
+    ap args_of (with_items_is c.in-Call.args c.resolve_args.new.args (omega arith)) ∙ c.resolve_args.ensures
+    ∙ ap (λ args. resolved_args (in_scope c.args.scope.now) (args_of args)) c.deref_mut-in-Call.ensures.value
+    )
