@@ -1,6 +1,7 @@
 pub mod World
-pub mod Arith
 pub mod Steps
+pub mod Library
 pub mod Meaning
+pub mod Own
 pub mod Ends
 pub mod Laws

@@ -1,20 +1,23 @@
-//! Laws of runs and of conversions, each the contract of a function that does nothing.
+//! Laws of runs, each the contract of a function that does nothing.
 
-ghost use Rattle.c_meaning.specs.Laws.{UnitsFall, LoopTurns, ConversionFits, ConversionIsModulo, ConversionKeeps};
+ghost use Rattle.c_meaning.specs.Laws.{UnitsFall, LoopsTurn, BlocksEnd, CellsFit};
 
 /// No run has more units at its end than at its start.
 pub fn units_fall()
     ensures { UnitsFall }
 {}
 
-/// A loop is one turn, and then the loop again.
-pub fn loop_turns()
-    ensures { LoopTurns }
+/// A loop is one turn, and then the loop again, unless the turn leads elsewhere.
+pub fn loops_turn()
+    ensures { LoopsTurn }
 {}
 
-/// A conversion gives the one value of the type that equals the number modulo the number of the type's values.
-pub fn conversion_is_modulo()
-    ensures fits { ConversionFits }
-    ensures modulo { ConversionIsModulo }
-    ensures keeps { ConversionKeeps }
+/// A block leaves as many objects as it found (C11 6.2.4 p6).
+pub fn blocks_end()
+    ensures { BlocksEnd }
+{}
+
+/// A number in a cell is always a value of its object's type (C11 6.5.16.1 p2).
+pub fn cells_fit()
+    ensures { CellsFit }
 {}

@@ -1,18 +1,21 @@
-//! The meaning of programs (C11 6.5, 6.8), and their runs on tests.
+//! The meaning of programs (C11 6.5, 6.8, 6.9), and their runs on tests.
 #![tactic(auto)]
 
-mod evaluate;
-mod execute;
+mod argument;
+mod bind;
+mod context;
+mod globals;
 mod laws;
-mod numbers;
+mod library;
 mod outcome;
 mod plain;
+mod run;
 mod state;
 mod stop;
 mod storage;
 
-pub use laws::{conversion_is_modulo, loop_turns, units_fall};
-pub use numbers::{apply, convert};
+pub use argument::Argument;
+pub use laws::{blocks_end, cells_fit, loops_turn, units_fall};
 pub use outcome::Outcome;
 pub use plain::plain_run;
 pub use stop::{End, Flow};

@@ -1,20 +1,22 @@
 //! The run of a program on a test.
 
 ghost use Rattle.std.specs.Prelude.{◌≡◌, ◌≤◌, IfOk, map};
-ghost use Rattle.std.specs.Option.{option_map};
-ghost use Rattle.c_tree.specs.Views.{outer, program as program_tree, body_of};
+ghost use Rattle.c_tree.specs.Views.{outer, program as program_tree};
 ghost use Rattle.c_types.specs.Shown.{tree_of};
-ghost use Rattle.c_meaning.specs.World.{Gives, World};
-ghost use Rattle.c_meaning.specs.Meaning.{main_of as main_in, main_value as value_at, make_globals as globals_of, own_run};
+ghost use Rattle.c_meaning.specs.World.{Gives};
+ghost use Rattle.c_meaning.specs.Meaning.{own_run};
 ghost use Rattle.c_meaning.specs.Ends.{outcome, finished as finished_with};
 
-use crate::execute::run_block;
-use crate::numbers::byte_of;
+use crate::bind::definition;
+use crate::context::{CALL_LIMIT, Context};
+use crate::globals::make_globals;
 use crate::outcome::Outcome;
+use crate::run::call_function;
 use crate::state::State;
-use crate::stop::{End, Flow, Stop};
+use crate::stop::{End, Stop};
+use c_arith::byte_of;
 use c_stdio::Test;
-use c_tree::{External, Item, NoMemory, Program};
+use c_tree::{External, NoMemory, Program};
 use c_types::Typed;
 use std::alloc::Global;
 
@@ -72,55 +74,15 @@ fn finished(wanted: u8, state: &State<'_>, value: i64) -> Outcome
 fn run_program(alloc: Global, externals: &[External], state: &mut State<'_>) -> Result<i64, Stop>
     ensures { Gives (λ v. v) result state.new (own_run (map outer externals.now) state.old) }
 {
-    make_globals(externals)?;
-    let Some(items) = main_of(externals) else {
-        return Err(Stop::Over(End::Trapped));
+    let context = Context {
+        alloc,
+        externals,
+        left: CALL_LIMIT,
     };
-    state.take_unit()?;
-    let flow = run_block(alloc, items, state)?;
-    main_value(flow)
-}
-
-/// Makes the objects of file scope. So far a program has none.
-fn make_globals(externals: &[External]) -> Result<(), Stop>
-    ensures { (w : World) → Gives (λ _. tt) result w (globals_of (map outer externals.now) w) }
-{
-    for external in externals {
-        if let External::Vars(_, declarators) = external {
-            if !declarators.is_empty() {
-                return Err(Stop::Over(End::Trapped));
-            }
-        }
-    }
-    Ok(())
-}
-
-/// The items of the body of `main`.
-fn main_of<'a>(externals: &'a [External]) -> Option<&'a Vec<Item>>
-    ensures { option_map (λ items. body_of items.now.items) result ≡ main_in (map outer externals.now) }
-{
-    for external in externals {
-        if let External::Func(function) = external {
-            if function.word.as_slice() == b"main".as_slice() {
-                if let Some(items) = &function.body {
-                    return Some(items);
-                }
-            }
-        }
-    }
-    None
-}
-
-/// What `main` returns.
-fn main_value(flow: Flow) -> Result<i64, Stop>
-    ensures { (w : World) → Gives (λ v. v) result w (value_at flow w) }
-{
-    match flow {
-        Flow::Next => Ok(0),
-        Flow::Return(Some(value)) => Ok(value),
-        Flow::Return(None) | Flow::Break | Flow::Continue => Err(Stop::Over(End::Trapped)),
+    make_globals(&context, state)?;
+    let main = definition(externals, b"main".as_slice());
+    match call_function(&context, main, &[], state)? {
+        Some(value) => Ok(value),
+        None => Err(Stop::Over(End::Trapped)),
     }
 }
-
-#[cfg(test)]
-mod tests;
