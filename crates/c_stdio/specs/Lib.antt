@@ -1,0 +1,4 @@
+pub mod Io
+pub mod Output
+pub mod Formats
+pub mod Scanning

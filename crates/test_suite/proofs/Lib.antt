@@ -1,2 +1,3 @@
 mod Documents
 pub mod Counts
+pub mod Refusals

@@ -1,2 +1,2 @@
-pub mod Suite
 pub mod Faults
+pub mod Suite

@@ -3,8 +3,7 @@
 
 mod fault;
 mod read;
-#[cfg(test)]
-mod tests;
+mod tests_of;
 
-pub use fault::SuiteFault;
+pub use fault::{Key, SuiteFault};
 pub use read::{Suite, read_suite};

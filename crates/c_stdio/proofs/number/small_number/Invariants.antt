@@ -1,0 +1,7 @@
+-- The number that the digits so far write.
+use Rattle.std.proofs.Common.{◌≡◌, min, take}
+use Rattle.std.specs.Str.Parse.{digits_value}
+use Rattle.c_stdio.proofs.number.small_number.Given as goal
+
+abbrev pub invariant-loop-digit : goal.invariant-loop-digit
+invariant-loop-digit l = l.number ≡ min (digits_value 10 (take l.digit-index l.digits)) 10000000000
