@@ -1,4 +1,5 @@
 pub mod Contents
 pub mod Faults
+pub mod Laws
 pub mod Shown
 pub mod Space

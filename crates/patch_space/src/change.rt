@@ -3,10 +3,12 @@
 ghost use Rattle.std.specs.Prelude.{◌≡◌, ◌<◌, length, slice_get, Some, IfOk, option_map};
 ghost use Rattle.c_location.specs.Shown.{lent};
 ghost use Rattle.c_tree.specs.Views.{program as tree_program};
+ghost use Rattle.c_types.specs.Evidence.{IsChecked};
 ghost use Rattle.c_types.specs.Shown.{tree_of};
 ghost use Rattle.patch_space.specs.Shown.{change, located_change as shown};
 ghost use Rattle.patch_space.specs.Space.{change_of as change_by, changed_at as change_at_location, changed as change_of_patch, with_change as changed_program, applied};
 
+use crate::laws::patched_is_checked;
 use crate::patch::Patch;
 use crate::space::Space;
 use c_location::{Change, Part, change_at, part_at};
@@ -77,24 +79,20 @@ fn with_change(
     }
 }
 
-/// The program that the patch makes: a copy, with the one part changed.
+/// The program that the patch makes: a copy, with the one part changed, which is checked as the program is.
 fn apply_patch(
     alloc: Global,
     program: &Program,
     locations: &[Loc],
     patch: &Patch,
-) -> Result<Program, NoMemory>
-    ensures { IfOk result (λ r. tree_program r ≡ applied (tree_program program.now) locations.now patch.now) }
+) -> Result<Typed, NoMemory>
+    requires { IsChecked (tree_program program.now) }
+    ensures { IfOk result (λ r. tree_of r ≡ applied (tree_program program.now) locations.now patch.now) }
 {
     let there = changed_by(alloc, program, locations, patch)?;
-    with_change(alloc, program, &there)
-}
-
-/// The patched program, as one that was checked.
-fn typed(program: Program) -> Typed
-    ensures { tree_of result ≡ tree_program program }
-{
-    Typed::new(program)
+    let patched = with_change(alloc, program, &there)?;
+    patched_is_checked();
+    Ok(Typed::new(patched))
 }
 
 /// The location at which the patch of this rank changes the program, and the change that it makes there. There is
@@ -128,6 +126,5 @@ pub fn apply(alloc: Global, program: &Typed, space: &Space, i: u32) -> Result<Ty
         option_map (applied (tree_of program.now) space.now.locations) (slice_get space.now.patches i) ≡ Some (tree_of r)) }
 {
     let patch = space.patch(i);
-    let patched = apply_patch(alloc, program.program(), space.all_locations(), patch)?;
-    Ok(typed(patched))
+    apply_patch(alloc, program.program(), space.all_locations(), patch)
 }

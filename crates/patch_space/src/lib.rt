@@ -3,10 +3,12 @@
 
 mod change;
 mod fault;
+mod laws;
 mod patch;
 mod space;
 
 pub use change::{apply, changed};
 pub use fault::SpaceFault;
+pub use laws::patched_is_checked;
 pub use patch::Patch;
 pub use space::Space;

@@ -41,7 +41,7 @@ impl Model for Space {
 
 impl Space {
     /// The first `max` patches of the program by rank: those of lower cost first, then by their locations in text
-    /// order, then in the order of the edits there. No more than these are made.
+    /// order, then in the order of the edits there. No location after the one that makes them enough is looked at.
     ///
     /// # Errors
     ///

@@ -1,5 +1,7 @@
-//! Trees that tests build by hand.
+//! Programs of tests: trees that are built by hand, and sources that are read and checked.
 
+use c_lex::lex;
+use c_parse::parse;
 use c_tree::{
     BinOp, Declarator, Expr, ExprNode, External, Func, Item, NoMemory, Program, Shape, Slot, Span,
     Start, Stmt, StmtNode, Text, Ty,
@@ -85,9 +87,45 @@ pub fn program(alloc: Global, items: Vec<Item>) -> Result<Program, NoMemory> {
     Ok(Program { externals })
 }
 
-/// The same, checked. The first of the items declares `a`.
-pub fn typed(alloc: Global, items: Vec<Item>) -> Result<Typed, Fail> {
-    Ok(check(alloc, program(alloc, items)?, 0)?)
+/// The checked program of this source.
+pub fn checked(alloc: Global, source: &[u8]) -> Result<Typed, Fail> {
+    (source.len() < 65_536).then_some(()).ok_or("too long")?;
+    let end = source.len() as u32;
+    let tokens = lex(alloc, source)?;
+    let tree = parse(alloc, &tokens, end)?;
+    Ok(check(alloc, tree, end)?)
+}
+
+/// The text of a comparison operator.
+fn spelled(op: BinOp) -> &'static str {
+    match op {
+        BinOp::Lt => "<",
+        BinOp::Le => "<=",
+        BinOp::Gt => ">",
+        BinOp::Ge => ">=",
+        BinOp::Eq => "==",
+        _ => "!=",
+    }
+}
+
+/// `int main(void) { int a = 1; if (a FIRST a) a; if (a SECOND a) a; }`
+pub fn two_conditions(alloc: Global, first: BinOp, second: BinOp) -> Result<Typed, Fail> {
+    let mut source = b"int main(void) { int a = 1; if (a ".to_vec(alloc)?;
+    source.extend_from_slice(spelled(first).as_bytes())?;
+    source.extend_from_slice(b" a) a; if (a ")?;
+    source.extend_from_slice(spelled(second).as_bytes())?;
+    source.extend_from_slice(b" a) a; }")?;
+    checked(alloc, &source)
+}
+
+/// `int main(void) { int a = 1; a; .. }` with so many statements `a;`. It has one location more than these.
+pub fn row_of_statements(alloc: Global, count: u32) -> Result<Typed, Fail> {
+    let mut source = b"int main(void) { int a = 1; ".to_vec(alloc)?;
+    for _ in 0..count {
+        source.extend_from_slice(b"a;")?;
+    }
+    source.push(b'}')?;
+    checked(alloc, &source)
 }
 
 /// `int a=1;` with one location, and so many statements `a;` with one each.

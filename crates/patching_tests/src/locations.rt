@@ -1,6 +1,6 @@
 //! Programs whose locations are listed by hand.
 
-use crate::build::{declaration, digit, name, program, span, statements, typed};
+use crate::build::{declaration, digit, name, program, row_of_statements, span, statements};
 use c_location::{LocFault, locations};
 use c_tree::{BinOp, Expr, ExprNode, Init, Item, Loc, LocKind, NoMemory, Span, Stmt, StmtNode};
 use std::alloc::Global;
@@ -172,7 +172,7 @@ fn each_kind_stands_in_text_order(rt: HostRuntime) -> Result<(), Fail> {
 #[test]
 fn more_than_the_limit_are_refused(rt: HostRuntime) -> Result<(), Fail> {
     let alloc = rt.alloc();
-    let checked = typed(alloc, statements(alloc, 4095)?)?;
+    let checked = row_of_statements(alloc, 4095)?;
     assert_eq!(rt; schemas::locations(alloc, &checked)?.len(), 4096);
     for (count, all) in [(4096, 4097), (4999, 5000)] {
         let refused = locations(alloc, &program(alloc, statements(alloc, count)?)?);

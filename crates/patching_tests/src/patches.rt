@@ -1,38 +1,18 @@
 //! Spaces of small programs, and what their patches make of them.
 
-use crate::build::{boxed, comparison, declaration, item, name, span, statements, typed};
+use crate::build::{comparison, row_of_statements, two_conditions};
 use c_location::Change;
-use c_tree::{BinOp, Item, NoMemory, Span, StmtNode, same_expr, same_tree};
-use c_types::Typed;
+use c_tree::{BinOp, Span, same_expr, same_tree};
 use patch_space::{Patch, Space, SpaceFault, apply, changed};
 use schemas::Edit;
-use std::alloc::Global;
 use std::test::Fail;
 
-const FIRST: Span = Span { from: 30, to: 35 };
+/// The conditions of `two_conditions` with `<` and `==`.
+const FIRST: Span = Span { from: 32, to: 37 };
 
-const SECOND: Span = Span { from: 40, to: 45 };
+const SECOND: Span = Span { from: 46, to: 52 };
 
-/// `if (a OP a) a;`
-fn when(alloc: Global, op: BinOp, at: Span) -> Result<Item, NoMemory> {
-    let node = StmtNode::If {
-        test: comparison(alloc, op, at)?,
-        yes: boxed(alloc, StmtNode::Act(name(alloc, b'a', at)?), at)?,
-        no: None,
-    };
-    Ok(item(node, at))
-}
-
-/// `int a=1; if (a OP a) a; if (a OP a) a;`
-fn two(alloc: Global, first: BinOp, second: BinOp) -> Result<Typed, Fail> {
-    let mut items = Vec::new(alloc);
-    items.push(declaration(alloc)?)?;
-    items.push(when(alloc, first, FIRST)?)?;
-    items.push(when(alloc, second, SECOND)?)?;
-    typed(alloc, items)
-}
-
-/// The patches of `int a=1; if (a < a) a; if (a == a) a;` as the number of the location and the new operator.
+/// The patches of `two_conditions` with `<` and `==`, as the number of the location and the new operator.
 const RANKED: [(u32, BinOp); 10] = [
     (1, BinOp::Eq),
     (1, BinOp::Ne),
@@ -49,7 +29,7 @@ const RANKED: [(u32, BinOp); 10] = [
 #[test]
 fn patches_stand_by_location_and_then_by_operator(rt: HostRuntime) -> Result<(), Fail> {
     let alloc = rt.alloc();
-    let program = two(alloc, BinOp::Lt, BinOp::Eq)?;
+    let program = two_conditions(alloc, BinOp::Lt, BinOp::Eq)?;
     for (max, count) in [(0, 0), (1, 1), (7, 7), (10, 10), (65_536, 10)] {
         let space = Space::build(alloc, &program, max)?;
         assert_eq!(rt; space.len(), count);
@@ -74,9 +54,9 @@ fn patches_stand_by_location_and_then_by_operator(rt: HostRuntime) -> Result<(),
 #[test]
 fn a_patch_changes_its_condition_alone(rt: HostRuntime) -> Result<(), Fail> {
     let alloc = rt.alloc();
-    let program = two(alloc, BinOp::Lt, BinOp::Eq)?;
+    let program = two_conditions(alloc, BinOp::Lt, BinOp::Eq)?;
     let space = Space::build(alloc, &program, 10)?;
-    let other = typed(alloc, statements(alloc, 3)?)?;
+    let other = row_of_statements(alloc, 3)?;
     assert_eq!(rt; space.len(), 10);
     for i in 0..space.len() {
         let Some((loc, op)) = RANKED.get(i as usize) else {
@@ -85,8 +65,8 @@ fn a_patch_changes_its_condition_alone(rt: HostRuntime) -> Result<(), Fail> {
         let patched = apply(alloc, &program, &space, i)?;
         let new = changed(alloc, &program, &space, i)?;
         let (want, at) = match loc {
-            1 => (two(alloc, *op, BinOp::Eq)?, FIRST),
-            _ => (two(alloc, BinOp::Lt, *op)?, SECOND),
+            1 => (two_conditions(alloc, *op, BinOp::Eq)?, FIRST),
+            _ => (two_conditions(alloc, BinOp::Lt, *op)?, SECOND),
         };
         let condition = comparison(alloc, *op, at)?;
         assert!(rt; same_tree(patched.program(), want.program()));
@@ -103,9 +83,9 @@ fn a_patch_changes_its_condition_alone(rt: HostRuntime) -> Result<(), Fail> {
 #[test]
 fn too_many_locations_are_refused(rt: HostRuntime) -> Result<(), Fail> {
     let alloc = rt.alloc();
-    let most = typed(alloc, statements(alloc, 4095)?)?;
+    let most = row_of_statements(alloc, 4095)?;
     assert_eq!(rt; Space::build(alloc, &most, 10)?.locations(), 4096);
-    let refused = Space::build(alloc, &typed(alloc, statements(alloc, 4096)?)?, 10);
+    let refused = Space::build(alloc, &row_of_statements(alloc, 4096)?, 10);
     assert!(rt; matches!(refused, Err(SpaceFault::TooManyLocations(4097))));
     Ok(())
 }

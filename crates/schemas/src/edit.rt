@@ -3,7 +3,7 @@
 ghost use Rattle.std.specs.Prelude.{◌≡◌, map, IfOk};
 ghost use Rattle.c_tree.specs.Views.{tree};
 ghost use Rattle.schemas.specs.declared.edit.Edit.TheVariants.{Op};
-ghost use Rattle.schemas.specs.Edits.{other_comparisons as others, edits_of, with_operator as under, edited as after};
+ghost use Rattle.schemas.specs.Edits.{other_operators as others, edits_of, with_operator as under, edited as after};
 
 use c_tree::{BinOp, Expr, ExprNode, NoMemory, copy_expr, is_pure};
 use std::alloc::Global;
@@ -15,11 +15,12 @@ pub enum Edit {
     Op(BinOp),
 }
 
-/// The other comparison operators (C11 6.5.8, 6.5.9), if this is one.
-fn other_comparisons(op: BinOp) -> &'static [BinOp]
+/// The operators that may stand in place of this one: the other comparisons (C11 6.5.8, 6.5.9), or the other of `&&`
+/// and `||` (C11 6.5.13, 6.5.14).
+fn other_operators(op: BinOp) -> &'static [BinOp]
     ensures { result.now ≡ others op }
 {
-    use BinOp::{Eq, Ge, Gt, Le, Lt, Ne};
+    use BinOp::{Both, Either, Eq, Ge, Gt, Le, Lt, Ne};
     match op {
         Eq => &[Ne, Lt, Le, Gt, Ge],
         Ne => &[Eq, Lt, Le, Gt, Ge],
@@ -27,22 +28,24 @@ fn other_comparisons(op: BinOp) -> &'static [BinOp]
         Le => &[Eq, Ne, Lt, Gt, Ge],
         Gt => &[Eq, Ne, Lt, Le, Ge],
         Ge => &[Eq, Ne, Lt, Le, Gt],
+        Both => &[Either],
+        Either => &[Both],
         _ => &[],
     }
 }
 
-/// The edits that replace this operator by another comparison, if it is one.
-fn comparison_edits(alloc: Global, op: BinOp) -> Result<Vec<Edit>, NoMemory>
+/// The edits that replace this operator by one that may stand in its place.
+fn operator_edits(alloc: Global, op: BinOp) -> Result<Vec<Edit>, NoMemory>
     ensures { IfOk result (λ edits. edits.items ≡ map (λ new. Op new) (others op)) }
 {
-    other_comparisons(op)
+    other_operators(op)
         .iter()
         .map(|new| Edit::Op(*new))
         .collect(alloc)
 }
 
-/// The edits of cost 1 of a condition, in their order: of a comparison without a call, an assignment or a bump the
-/// five other comparisons, and else none.
+/// The edits of cost 1 of a condition, in their order. Where it has no call, assignment or bump: of a comparison the
+/// five others, of `&&` and of `||` the other one; and else none.
 pub fn candidates(alloc: Global, e: &Expr) -> Result<Vec<Edit>, NoMemory>
     ensures { IfOk result (λ edits. edits.items ≡ edits_of (tree e.now)) }
 {
@@ -50,7 +53,7 @@ pub fn candidates(alloc: Global, e: &Expr) -> Result<Vec<Edit>, NoMemory>
         return Ok(Vec::new(alloc));
     }
     match &e.node {
-        ExprNode::Binary { op, .. } => comparison_edits(alloc, *op),
+        ExprNode::Binary { op, .. } => operator_edits(alloc, *op),
         _ => Ok(Vec::new(alloc)),
     }
 }
