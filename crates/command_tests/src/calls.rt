@@ -189,18 +189,18 @@ const LINES: [Row; 14] = [
 ];
 
 /// Programs and suites.
-const FILES: [Row; 17] = [
+const FILES: [Row; 20] = [
     (LINE, "@", "[", 4, "", "p.c:1:1: stray byte\n"),
-    (LINE, UNDECLARED, PASSED, 4, "", REFUSED),
+    (LINE, UNDECLARED, PASSED, 4, "", "p.c:1:18: unknown name\n"),
     (LINE, NEXT, "", 5, "", BAD_SUITE),
     (LINE, NEXT, "[", 5, "", BAD_SUITE),
     (
         LINE,
-        "int main(void) { for (;;) {} }",
+        "int main(void) { for (;;) { break; } }",
         PASSED,
-        4,
+        1,
+        "none\n",
         "",
-        REFUSED,
     ),
     (
         LINE,
@@ -215,20 +215,44 @@ const FILES: [Row; 17] = [
     (
         LINE,
         IDLE,
-        r#"{"tests":[{"output":"","status":0}]}"#,
-        5,
+        r#"{"tests":[{"output":"","status":0,"name":""}]}"#,
+        2,
+        SOUND,
         "",
-        BAD_SUITE,
     ),
     (
         LINE,
         IDLE,
-        r#"{"tests":[{"output":"","name":""}]}"#,
+        r#"{"tests":[{"output":"","status":256}]}"#,
         5,
         "",
         BAD_SUITE,
     ),
-    (LINE, IDLE, r#"{"limit":1,"tests":[]}"#, 5, "", BAD_SUITE),
+    (LINE, IDLE, r#"{"limit":0,"tests":[]}"#, 5, "", BAD_SUITE),
+    (
+        LINE,
+        IDLE,
+        r#"{"limit":2,"tests":[{"output":""}]}"#,
+        2,
+        SOUND,
+        "",
+    ),
+    (
+        LINE,
+        IDLE,
+        r#"{"limit":1,"tests":[{"output":""}]}"#,
+        1,
+        "none\n",
+        "",
+    ),
+    (
+        LINE,
+        "int main(void) { return 257; }",
+        r#"{"tests":[{"output":"","status":1}]}"#,
+        2,
+        SOUND,
+        "",
+    ),
     (
         LINE,
         IDLE,
@@ -548,6 +572,13 @@ fn repairs(rt: HostRuntime) -> Result<(), Fail> {
             r#"{"tests":[{"input":"12","output":"2"},{"input":"01","output":""},{"input":"/1","output":""},{"input":"21","output":"2"}]}"#,
             0,
             "int main(void) { int a; int b; a = getchar(); b = getchar(); if (a < b) { if ((a > 48)) { putchar(b); } } else { putchar(a); } return 0; }",
+        ),
+        // The condition of another function is repaired, by the other logical operator.
+        (
+            "int digit(int c) { if (c >= 48 || c <= 57) { return 1; } return 0; } int main(void) { putchar(48 + digit(getchar())); }",
+            r#"{"tests":[{"input":"5","output":"1"},{"input":"a","output":"0"},{"input":"/","output":"0"}]}"#,
+            0,
+            "int digit(int c) { if (((c >= 48) && (c <= 57))) { return 1; } return 0; } int main(void) { putchar(48 + digit(getchar())); }",
         ),
         // Of two repairs the first is taken.
         (

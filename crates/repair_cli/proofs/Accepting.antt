@@ -9,17 +9,22 @@ use Rattle.c_grammar.specs.Programs.{Derives}
 use Rattle.c_grammar.specs.Judge.{Verdict, good, unexpected_at, too_deep_at, Judged, judge}
 use Rattle.c_grammar.proofs.TooDeep.{passes_deep}
 use Rattle.c_grammar.proofs.Verdicts.{one, judge_is}
-use Rattle.c_parse.specs.Faults.{place_of, Causes}
+use Rattle.c_parse.specs.Results.{place_of, IsFirstFault}
 use Rattle.c_parse.specs.declared.fault.ParseFault.{ParseFault}
 use Rattle.c_parse.specs.declared.fault.ParseFault.TheVariants as parse
-use Rattle.plain_form.specs.Form.{is_plain}
-use Rattle.c_types.specs.Names.{IsWellNamed, resolved}
+use Rattle.c_types.specs.declared.fault.TypeFault.{TypeFault}
+use Rattle.c_types.specs.declared.fault.TypeFault.TheVariants as kinds
+use Rattle.c_types.specs.Least.{Causes as CausedBy}
+use Rattle.c_types.specs.Programs.{program_faults}
+use Rattle.c_types.specs.Slots.{resolved}
+use Rattle.c_types.proofs.OneFirst as kind
 use Rattle.repair_job.specs.Patches.{HasFewLocations}
-use Rattle.repair_cli.specs.Accepted.{IsCut, IsRead, IsRunnable, IsProgram}
-use Rattle.repair_cli.specs.Faults.{IsNotRunnable, IsFault, Refuses, fault_message}
+use Rattle.repair_cli.specs.Accepted.{IsCut, IsRead, IsWellTyped, IsRunnable, IsProgram}
+use Rattle.repair_cli.specs.Literals.{has_literal}
+use Rattle.repair_cli.specs.Faults.{IsFault, Refuses, fault_message}
 use Rattle.repair_cli.specs.Laws.{OneProgram, OneFault, OneRefusal, NeverBoth}
 use Rattle.repair_cli.specs.declared.fault.ProgramFault.{ProgramFault}
-use Rattle.repair_cli.specs.declared.fault.ProgramFault.TheVariants.{TooLong, Lex, Parse, Unsupported, NoMemory}
+use Rattle.repair_cli.specs.declared.fault.ProgramFault.TheVariants.{TooLong, Lex, Parse, Kinds, Unsupported, NoMemory}
 
 -- the tokens of a source are the only ones
 pub one_cut : (bytes : List ℕ) (ts us : Tokens) → Lexes bytes (Ok ts) → Lexes bytes (Ok us) → ts ≡ us
@@ -39,18 +44,6 @@ one_tree bytes t u a b =
 pub one_program : OneProgram
 one_program bytes p q a b = a.runnable.is_resolved ∙ ap resolved (one_tree bytes a.tree b.tree a.read b.read) ∙ sym b.runnable.is_resolved
 
--- a tree that isn't of the plain form can't be run
-pub not_plain : (tree : List Outer) → is_plain tree ≡ false → IsNotRunnable tree
-not_plain tree e program r = let p = r.plain in absurd (cc)
-
--- a tree whose names aren't declared can't be run
-pub not_named : (tree : List Outer) → (IsWellNamed tree → ⊥) → IsNotRunnable tree
-not_named tree e program r = e r.named
-
--- a tree with too many locations can't be run
-pub not_few : (tree own : List Outer) → own ≡ resolved tree → (HasFewLocations own → ⊥) → IsNotRunnable tree
-not_few tree own own_is many program r = many (subst HasFewLocations (r.is_resolved ∙ sym own_is) r.few)
-
 -- ---- one fault
 
 -- what is judged of one list of tokens is one verdict
@@ -58,7 +51,7 @@ one_verdict : (ts : Tokens) (v w : Verdict) → Judged 64 ts v → Judged 64 ts 
 one_verdict ts v w x y = sym (judge_is 64 ts v x) ∙ judge_is 64 ts w y
 
 -- the first fault of a list of tokens is one
-one_cause : (end : ℕ) (ts : Tokens) (f g : ParseFault) → f ≢ parse.NoMemory → g ≢ parse.NoMemory → Causes end ts f → Causes end ts g → f ≡ g
+one_cause : (end : ℕ) (ts : Tokens) (f g : ParseFault) → f ≢ parse.NoMemory → g ≢ parse.NoMemory → IsFirstFault end ts f → IsFirstFault end ts g → f ≡ g
 one_cause end ts (parse.Unexpected m) (parse.Unexpected n) a b x y =
     let e = one_verdict ts (unexpected_at x.0) (unexpected_at y.0) x.2 y.2 in
     let r : x.0 ≡ y.0 = cc in
@@ -75,26 +68,71 @@ one_cause end ts parse.NoMemory g a b x y = absurd (a refl)
 one_cause end ts f parse.NoMemory a b x y = absurd (b refl)
 
 -- a source that has a tree has no fault in its tokens
-no_cause : (end : ℕ) (ts : Tokens) (tree : List Outer) (f : ParseFault) → f ≢ parse.NoMemory → Derives 64 ts tree → Causes end ts f → ⊥
+no_cause : (end : ℕ) (ts : Tokens) (tree : List Outer) (f : ParseFault) → f ≢ parse.NoMemory → Derives 64 ts tree → IsFirstFault end ts f → ⊥
 no_cause end ts tree (parse.Unexpected n) a d x = let e = one_verdict ts (good tree) (unexpected_at x.0) d x.2 in absurd (cc)
 no_cause end ts tree (parse.TooDeep n) a d x = let e = one_verdict ts (good tree) (too_deep_at x.0) d (passes_deep 64 ts x.0 x.2) in absurd (cc)
 no_cause end ts tree parse.NoMemory a d x = a refl
 
--- a source that has a tree has no fault but that the tree can't be run
-no_fault : (bytes : List ℕ) (tree : List Outer) (f : ProgramFault) → IsRead bytes tree → IsFault bytes f → f ≡ Unsupported
-no_fault bytes tree _ r (IsFault.too_long a) = let s = r.cut.short in absurd (omega (arith, a, s))
-no_fault bytes tree _ r (IsFault.of_text f n s a) = absurd (no_tokens bytes r.tokens f r.cut.cut a)
-no_fault bytes tree _ r (IsFault.of_tokens f ts n c x) =
+-- the causes of a tree's faults are the same for trees that are the same
+same_causes : (end : ℕ) (f : TypeFault) (t u : List Outer) → t ≡ u
+    → CausedBy f (program_faults t end) → CausedBy f (program_faults u end)
+same_causes end f t u e = subst (λ x. CausedBy f (program_faults x end)) e
+
+-- a well-typed tree causes no fault of kinds
+no_kind : (end : ℕ) (tree : List Outer) (f : TypeFault) → f ≢ kinds.NoMemory → IsWellTyped end tree
+    → CausedBy f (program_faults tree end) → ⊥
+no_kind end tree f n typed x = kind.no_cause f n (subst (CausedBy f) typed x)
+
+-- a source that has a tree has no fault but of the tree's kinds, of its string literals and of its size
+data OfTree (bytes : List ℕ) (tree : List Outer) (r : IsRead bytes tree) : ProgramFault → Type 0 where
+  kinds_of : (f : TypeFault) → f ≢ kinds.NoMemory → CausedBy f (program_faults tree (length bytes))
+      → OfTree bytes tree r (Kinds f)
+  literal_of : IsWellTyped (length bytes) tree → has_literal r.tokens ≡ true → OfTree bytes tree r Unsupported
+  size_of : IsWellTyped (length bytes) tree → ¬ HasFewLocations (resolved tree) → OfTree bytes tree r Unsupported
+
+tree_fault : (bytes : List ℕ) (tree : List Outer) (f : ProgramFault) (r : IsRead bytes tree) → IsFault bytes f → OfTree bytes tree r f
+tree_fault bytes tree _ r (IsFault.too_long a) = let s = r.cut.short in absurd (omega (arith, a, s))
+tree_fault bytes tree _ r (IsFault.of_text f n s a) = absurd (no_tokens bytes r.tokens f r.cut.cut a)
+tree_fault bytes tree _ r (IsFault.of_tokens f ts n c x) =
     let same = one_cut bytes r.tokens ts r.cut.cut c.cut in
     absurd (no_cause (length bytes) ts tree f n (subst (λ us. Derives 64 us tree) same r.derived) x)
-no_fault bytes tree _ r (IsFault.of_tree t i x) = refl
+tree_fault bytes tree _ r (IsFault.of_kinds f t n read x) =
+    kinds_of f n (same_causes (length bytes) f t tree (one_tree bytes t tree read r) x)
+tree_fault bytes tree _ r (IsFault.of_literal t read typed some) =
+    literal_of (subst (IsWellTyped (length bytes)) (one_tree bytes t tree read r) typed)
+    (subst (λ ts. has_literal ts ≡ true) (one_cut bytes read.tokens r.tokens read.cut.cut r.cut.cut) some)
+tree_fault bytes tree _ r (IsFault.of_size t read typed many) =
+    let same = one_tree bytes t tree read r in
+    size_of (subst (IsWellTyped (length bytes)) same typed)
+    (subst (λ u. ¬ HasFewLocations (resolved u)) same many)
+
+-- two faults of one tree are one
+one_of_tree : (bytes : List ℕ) (tree : List Outer) (r : IsRead bytes tree) (f g : ProgramFault) → OfTree bytes tree r f → OfTree bytes tree r g → f ≡ g
+one_of_tree bytes tree r _ _ (kinds_of f n x) (kinds_of g m y) = ap (λ h. Kinds h) (kind.one_cause (program_faults tree (length bytes)) f g n m x y)
+one_of_tree bytes tree r _ _ (kinds_of f n x) (literal_of typed some) = absurd (no_kind (length bytes) tree f n typed x)
+one_of_tree bytes tree r _ _ (kinds_of f n x) (size_of typed many) = absurd (no_kind (length bytes) tree f n typed x)
+one_of_tree bytes tree r _ _ (literal_of typed some) (kinds_of f n x) = absurd (no_kind (length bytes) tree f n typed x)
+one_of_tree bytes tree r _ _ (literal_of a b) (literal_of c d) = refl
+one_of_tree bytes tree r _ _ (literal_of a b) (size_of c d) = refl
+one_of_tree bytes tree r _ _ (size_of typed many) (kinds_of f n x) = absurd (no_kind (length bytes) tree f n typed x)
+one_of_tree bytes tree r _ _ (size_of a b) (literal_of c d) = refl
+one_of_tree bytes tree r _ _ (size_of a b) (size_of c d) = refl
+
+-- the first fault of a source is one, where one of the two is of its tree
+one_with_tree : (bytes : List ℕ) (tree : List Outer) (f g : ProgramFault) → IsRead bytes tree → IsFault bytes f → IsFault bytes g → f ≡ g
+one_with_tree bytes tree f g r a b = one_of_tree bytes tree r f g (tree_fault bytes tree f r a) (tree_fault bytes tree g r b)
 
 -- the first fault of a source is one
 pub one_fault : OneFault
+one_fault bytes f _ a (IsFault.of_kinds g t n r x) = one_with_tree bytes t f (Kinds g) r a (IsFault.of_kinds g t n r x)
+one_fault bytes f _ a (IsFault.of_literal t r x y) = one_with_tree bytes t f Unsupported r a (IsFault.of_literal t r x y)
+one_fault bytes f _ a (IsFault.of_size t r x y) = one_with_tree bytes t f Unsupported r a (IsFault.of_size t r x y)
+one_fault bytes _ g (IsFault.of_kinds f t n r x) b = one_with_tree bytes t (Kinds f) g r (IsFault.of_kinds f t n r x) b
+one_fault bytes _ g (IsFault.of_literal t r x y) b = one_with_tree bytes t Unsupported g r (IsFault.of_literal t r x y) b
+one_fault bytes _ g (IsFault.of_size t r x y) b = one_with_tree bytes t Unsupported g r (IsFault.of_size t r x y) b
 one_fault bytes _ _ (IsFault.too_long a) (IsFault.too_long b) = refl
 one_fault bytes _ _ (IsFault.too_long a) (IsFault.of_text g n s b) = absurd (omega (arith, a, s))
 one_fault bytes _ _ (IsFault.too_long a) (IsFault.of_tokens g ts n c y) = let s = c.short in absurd (omega (arith, a, s))
-one_fault bytes f _ a (IsFault.of_tree t r x) = no_fault bytes t f r a
 one_fault bytes _ _ (IsFault.of_text f n s a) (IsFault.too_long b) = absurd (omega (arith, b, s))
 one_fault bytes _ _ (IsFault.of_text f n s a) (IsFault.of_text g m z b) =
     let same = one_outcome bytes (Err f) (Err g) a b in
@@ -105,20 +143,22 @@ one_fault bytes _ _ (IsFault.of_tokens f ts n c x) (IsFault.too_long b) = let s 
 one_fault bytes _ _ (IsFault.of_tokens f ts n c x) (IsFault.of_text g m s b) = absurd (no_tokens bytes ts g c.cut b)
 one_fault bytes _ _ (IsFault.of_tokens f ts n c x) (IsFault.of_tokens g us m d y) =
     let same = one_cut bytes us ts d.cut c.cut in
-    ap (λ h. Parse h) (one_cause (length bytes) ts f g n m x (subst (λ vs. Causes (length bytes) vs g) same y))
-one_fault bytes _ g (IsFault.of_tree t r x) b = sym (no_fault bytes t g r b)
+    ap (λ h. Parse h) (one_cause (length bytes) ts f g n m x (subst (λ vs. IsFirstFault (length bytes) vs g) same y))
 
 -- a source is refused with one message at most
 pub one_refusal : OneRefusal
 one_refusal name bytes t u a b =
     a.message ∙ ap (fault_message name bytes) (one_fault bytes a.fault b.fault a.is_first b.is_first) ∙ sym b.message
 
+-- a source that states a program has no fault of its tree
+no_fault : (bytes : List ℕ) (p : List Outer) (f : ProgramFault) (i : IsProgram bytes p) → OfTree bytes i.tree i.read f → ⊥
+no_fault bytes p _ i (kinds_of f n x) = no_kind (length bytes) i.tree f n i.runnable.typed x
+no_fault bytes p _ i (literal_of typed some) = let none = i.plain in absurd (cc)
+no_fault bytes p _ i (size_of typed many) = many (subst HasFewLocations i.runnable.is_resolved i.runnable.few)
+
 -- a source that states a program has no fault
 faultless : (bytes : List ℕ) (p : List Outer) (f : ProgramFault) → IsProgram bytes p → IsFault bytes f → ⊥
-faultless bytes p _ i (IsFault.of_tree tree r x) = x p (subst (λ t. IsRunnable t p) (one_tree bytes i.tree tree i.read r) i.runnable)
-faultless bytes p _ i (IsFault.too_long a) = let e = no_fault bytes i.tree TooLong i.read (IsFault.too_long a) in absurd (cc)
-faultless bytes p _ i (IsFault.of_text f n s a) = let e = no_fault bytes i.tree (Lex f) i.read (IsFault.of_text f n s a) in absurd (cc)
-faultless bytes p _ i (IsFault.of_tokens f ts n c x) = let e = no_fault bytes i.tree (Parse f) i.read (IsFault.of_tokens f ts n c x) in absurd (cc)
+faultless bytes p f i x = no_fault bytes p f i (tree_fault bytes i.tree f i.read x)
 
 -- a source that states a program isn't refused
 pub never_both : NeverBoth

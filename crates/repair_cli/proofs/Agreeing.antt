@@ -1,18 +1,19 @@
 -- What a call answers or refuses is settled by its words and files.
-use Rattle.std.proofs.Common.{◌≡◌, ℕ, List, [], ap, sym, subst, ◌∙◌, refl}
+use Rattle.std.proofs.Common.{◌≡◌, ℕ, List, [], length, Result, Ok, Err, inl, inr, ap, sym, subst, ◌∙◌, refl, arith}
 use Rattle.std.specs.Prelude.{Some, None, unwrap_or}
-use Rattle.std.proofs.lemmas.Option.{same_Some, none-some}
+use Rattle.std.proofs.lemmas.Option.{same_Some}
 use Rattle.fx_io.specs.Held.{file_named}
 use Rattle.c_tree.specs.Tree.{Outer}
 use Rattle.c_stdio.specs.declared.test.Test.{Test}
-use Rattle.test_suite.specs.Suite.{suite}
+use Rattle.test_suite.specs.declared.fault.SuiteFault.{SuiteFault}
+use Rattle.test_suite.specs.Suite.{Stated, stated}
 use Rattle.repair_job.specs.Job.{Job}
 use Rattle.repair_job.specs.Answers.{IsRight}
 use Rattle.repair_job.specs.Texts.{IsText}
 use Rattle.repair_job.specs.declared.answer.Answer.{Answer}
 use Rattle.repair_job.specs.declared.answer.Answer.TheVariants as answer
 use Rattle.repair_job.proofs.OneAnswer.{one_right, one_text}
-use Rattle.repair_cli.specs.Accepted.{IsProgram, IsSuite}
+use Rattle.repair_cli.specs.Accepted.{IsProgram, IsSuite, StatesNoSuite}
 use Rattle.repair_cli.specs.Ends.{Ends, IsAnswer, status_of_answer}
 use Rattle.repair_cli.specs.Faults.{Refuses}
 use Rattle.repair_cli.specs.Laws.{given, OneReply, OneEnd, IsSettled, Settled, AppendAlike}
@@ -42,6 +43,14 @@ same_job j k s p t l m =
 one_content : (files : Files) (a b : List ℕ) (x y : List ℕ) → a ≡ b → file_named files a ≡ Some x → file_named files b ≡ Some y → x ≡ y
 one_content files a b x y e p q = same_Some x y (sym p ∙ ap (file_named files) e ∙ q)
 
+-- bytes state one suite at most
+same_suite : (r : Result Stated SuiteFault) (a b : Stated) → r ≡ Ok a → r ≡ Ok b → a ≡ b
+same_suite r a b x y = cc
+
+-- a suite that is stated isn't refused
+never_refused : (r : Result Stated SuiteFault) (fault : SuiteFault) (a : Stated) → r ≡ Err fault → r ≡ Ok a → ⊥
+never_refused r fault a x y = absurd (cc)
+
 -- known files and words state one job at most
 one_job : (words : List (List ℕ)) (files : Files) (m n m' n' : ℕ) (a b : Answer) (t u : List ℕ) (x : IsAnswer (given words files m n) a t) (y : IsAnswer (given words files m' n') b u)
     → x.job ≡ y.job
@@ -55,8 +64,11 @@ one_job words files m n m' n' a b t u x y =
     one_program y.job.source x.job.program y.job.program (subst (λ w. IsProgram w x.job.program) source i.program.1) j.program.1 in
     let lists : i.suite.0 ≡ j.suite.0 =
     one_content files i.asked.suite j.asked.suite i.suite.0 j.suite.0 (ap (λ (k : Asked). k.suite) asked) i.suite.1 j.suite.1 in
-    let tests : x.job.tests ≡ y.job.tests = same_Some x.job.tests y.job.tests (sym i.suite.2.tests_are ∙ ap suite lists ∙ j.suite.2.tests_are) in
-    let own : i.limit ≡ j.limit = i.suite.2.limit_is ∙ sym j.suite.2.limit_is in
+    let both : Stated = record { tests = x.job.tests; limit = i.limit } in
+    let other : Stated = record { tests = y.job.tests; limit = j.limit } in
+    let same : both ≡ other = same_suite (stated i.suite.0) both other i.suite.2.states (ap stated lists ∙ j.suite.2.states) in
+    let tests : x.job.tests ≡ y.job.tests = ap (λ (s : Stated). s.tests) same in
+    let own : i.limit ≡ j.limit = ap (λ (s : Stated). s.limit) same in
     let limit : x.job.limit ≡ y.job.limit =
     i.limit_is ∙ ap (λ l. unwrap_or i.asked.options.limit l) own ∙ ap (λ (k : Asked). unwrap_or k.options.limit j.limit) asked ∙ sym j.limit_is in
     let most : x.job.most_patches ≡ y.job.most_patches = i.patches_are ∙ ap (λ (k : Asked). k.options.patches) asked ∙ sym j.patches_are in
@@ -117,13 +129,22 @@ program_clash words files a b e x y bad some =
     let same = one_content files b.program a.program some.0 bad.0 (ap (λ (k : Asked). k.program) (sym asked)) some.2.0 bad.1 in
     never_both a.program bad.0 e some.1 (subst (λ w. IsProgram w some.1) same some.2.1) bad.2
 
+-- bytes that state a suite aren't refused
+not_both : (xs ys : List ℕ) (tests : List Test) (limit : ℕ) → xs ≡ ys → StatesNoSuite xs → IsSuite ys tests limit → ⊥
+not_both xs ys tests limit same (inl long) i =
+    let short = i.short in
+    let lengths : length xs ≡ length ys = ap length same in
+    absurd (omega (arith, long, short, lengths))
+not_both xs ys tests limit same (inr bad) i =
+    never_refused (stated xs) bad.0 (record { tests = tests; limit = limit }) bad.1 (ap stated same ∙ i.states)
+
 -- one suite can't be refused and accepted
 suite_clash : (words : List (List ℕ)) (files : Files) (a b : Asked) (tests : List Test) (limit : ℕ) → command_in words ≡ Some (repair a) → command_in words ≡ Some (repair b)
     → HoldsNoSuite (known files a.suite) → HoldsSuite (known files b.suite) tests limit → ⊥
 suite_clash words files a b tests limit x y bad some =
     let asked = one_asked words a b x y in
     let same = one_content files a.suite b.suite bad.0 some.0 (ap (λ (k : Asked). k.suite) asked) bad.1 some.1 in
-    none-some tests (sym bad.2 ∙ ap suite same ∙ some.2.tests_are)
+    not_both bad.0 some.0 tests limit same bad.2 some.2
 
 -- what is said of one refused program is one message
 program_said : (words : List (List ℕ)) (files : Files) (a b : Asked) (t u : List ℕ) → command_in words ≡ Some (repair a) → command_in words ≡ Some (repair b)

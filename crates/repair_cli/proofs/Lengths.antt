@@ -10,6 +10,9 @@ use Rattle.c_lex.specs.declared.fault.LexFault.TheVariants as lex
 use Rattle.c_parse.specs.FaultWords as parser
 use Rattle.c_parse.specs.declared.fault.ParseFault.{ParseFault}
 use Rattle.c_parse.specs.declared.fault.ParseFault.TheVariants as parse
+use Rattle.c_types.specs.FaultWords as checker
+use Rattle.c_types.specs.declared.fault.TypeFault.{TypeFault}
+use Rattle.c_types.specs.declared.fault.TypeFault.TheVariants as kinds
 use Rattle.repair_cli.specs.Complete.{OnRead, IsFaultless, longest, longest_of}
 use Rattle.repair_cli.specs.Faults.{Refuses, IsFault, fault_place, fault_words, fault_message}
 use Rattle.repair_cli.specs.Refusal.{status_of, message_of}
@@ -17,7 +20,7 @@ use Rattle.repair_cli.specs.Source.{Source, Cause}
 use Rattle.repair_cli.specs.Words.{Command, repair, command_in}
 use Rattle.repair_cli.specs.Texts.{line_of, column_of, position_of, located, faulty, said_of, usage, bad_suite, cannot_read, no_memory}
 use Rattle.repair_cli.specs.declared.fault.ProgramFault.{ProgramFault}
-use Rattle.repair_cli.specs.declared.fault.ProgramFault.TheVariants.{TooLong, Lex, Parse, Unsupported, NoMemory}
+use Rattle.repair_cli.specs.declared.fault.ProgramFault.TheVariants.{TooLong, Lex, Parse, Kinds, Unsupported, NoMemory}
 use Rattle.repair_cli.specs.declared.refusal.Refusal.{Refusal}
 use Rattle.repair_cli.specs.declared.refusal.Refusal.TheVariants as reason
 use Rattle.repair_cli.specs.declared.status.Status.{Status}
@@ -33,11 +36,17 @@ parse_words : (f : ParseFault) → length (parser.fault_words f) ≤ 37
 parse_words parse.NoMemory = omega arith
 parse_words f = omega arith
 
+-- nor are those of kinds
+kind_words : (f : TypeFault) → length (checker.words_of f) ≤ 37
+kind_words kinds.NoMemory = omega arith
+kind_words f = omega arith
+
 -- nor are others
 pub words_within : (f : ProgramFault) → length (fault_words f) ≤ 37
 words_within TooLong = omega arith
 words_within (Lex f) = lex_words f
 words_within (Parse f) = parse_words f
+words_within (Kinds f) = kind_words f
 words_within Unsupported = omega arith
 words_within NoMemory = omega arith
 
@@ -97,7 +106,9 @@ fault_within : (name bytes : List ℕ) (f : ProgramFault) → IsFault bytes f �
 fault_within name bytes _ (IsFault.too_long a) = let h = said_within name TooLong in omega (arith, h)
 fault_within name bytes _ (IsFault.of_text f n s a) = at_within name bytes (lexer.place_of f) (Lex f) s
 fault_within name bytes _ (IsFault.of_tokens f ts n c x) = at_within name bytes (parser.fault_place f) (Parse f) c.short
-fault_within name bytes _ (IsFault.of_tree t r x) = let h = said_within name Unsupported in omega (arith, h)
+fault_within name bytes _ (IsFault.of_kinds f t n r x) = at_within name bytes (checker.place_of f) (Kinds f) r.cut.short
+fault_within name bytes _ (IsFault.of_literal t r x y) = let h = said_within name Unsupported in omega (arith, h)
+fault_within name bytes _ (IsFault.of_size t r x y) = let h = said_within name Unsupported in omega (arith, h)
 
 -- the message of a refused source is at most 64 bytes longer than the name
 refuses_within : (name bytes text : List ℕ) → Refuses name bytes text → length text ≤ 64 + length name

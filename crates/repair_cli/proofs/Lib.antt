@@ -6,4 +6,5 @@ pub mod Pieces
 pub mod Places
 pub mod Refusing
 pub mod Searching
+pub mod Suites
 pub mod Steps

@@ -6,7 +6,6 @@ use Rattle.fx_io.specs.Held.{Lacks}
 use Rattle.fx_io.proofs.FaultCounts.{Rose-later}
 use Rattle.c_tree.specs.Tree.{Outer}
 use Rattle.c_stdio.specs.declared.test.Test.{Test}
-use Rattle.test_suite.specs.Suite.{default_limit}
 use Rattle.repair_job.specs.Job.{Job}
 use Rattle.repair_job.specs.declared.answer.Answer.{Answer}
 use Rattle.repair_job.specs.declared.answer.Answer.TheVariants as answer
@@ -19,6 +18,7 @@ use Rattle.repair_cli.specs.Source.{Files, File, Source, file_in, Asks, States, 
 use Rattle.repair_cli.specs.declared.status.Status.{Status}
 use Rattle.repair_cli.specs.declared.status.Status.TheVariants as status
 use Rattle.repair_cli.proofs.Commands.{limit_in}
+use Rattle.repair_cli.proofs.Suites.{stated_range}
 
 -- the program was not had
 pub program_fails : (source : Source) (asked : Asked) (s : Status) (text : List ℕ) → Asks source asked → GivesNoProgram (file_in source asked.program) s text → Cause source s text
@@ -59,10 +59,6 @@ pub suite_held : (held mid : Option Files) (name : List ℕ) (f0 f1 f2 : ℕ) (t
     → HoldsSuite (file_at held name f0 f2) tests limit
 suite_held held mid name f0 f1 f2 tests limit same h = subst (λ (h : Option Files). HoldsSuite (file_at h name f0 f2) tests limit) same h
 
--- the limit of the suites can be run
-pub default_is_limit : (limit : ℕ) → limit ≡ default_limit → IsLimit limit
-default_is_limit limit e = record { some = omega (arith, e); most = omega (arith, e) }
-
 -- the words and the files state the job, and it can be done
 pub job_states : (source : Source) (asked : Asked) (job : Job) (bytes : List ℕ) (tree : List Outer) (tests : List Test) (limit : ℕ)
     → Asks source asked → HoldsProgram (file_in source asked.program) bytes tree → HoldsSuite (file_in source asked.suite) tests limit
@@ -77,7 +73,7 @@ job_states source asked job bytes tree tests limit valid program suite b t u l m
     subst (λ (x : List Test). HoldsSuite (file_in source asked.suite) x limit) (sym u) suite in
     let own : job.limit ≡ limit = l ∙ limit_in source.words asked limit valid in (
       record { asked = asked; valid = valid; program = held; limit = limit; suite = judged; limit_is = l; patches_are = m },
-      record { limit = default_is_limit job.limit (own ∙ suite.2.limit_is); few = held.1.runnable.few },
+      record { limit = subst IsLimit (sym own) (stated_range suite.0 (record { tests = tests; limit = limit }) suite.2.states); few = held.1.runnable.few },
     )
 
 -- the text of the answer was written, or its write failed

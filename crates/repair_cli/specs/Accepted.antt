@@ -1,15 +1,17 @@
 -- Which programs and suites are accepted.
-use Rattle.std.specs.Prelude.{◌≡◌, ℕ, ◌≤◌, Bool, true, List, length, Some, None, Ok}
+use Rattle.std.specs.Prelude.{◌≡◌, ◌⊎◌, ℕ, ◌<◌, ◌≤◌, false, List, [], length, Ok, Err}
 use Rattle.c_tree.specs.Tree.{Outer}
 use Rattle.c_lex.specs.Tokens.{Lexes}
 use Rattle.c_grammar.specs.Grammar.{Tokens}
-use Rattle.c_grammar.specs.Programs.{Derives}
-use Rattle.plain_form.specs.Form.{is_plain}
-use Rattle.c_types.specs.Names.{IsWellNamed, resolved}
+use Rattle.c_grammar.specs.Programs.{Derives, max_nesting}
+use Rattle.c_types.specs.Programs.{program_faults}
+use Rattle.c_types.specs.Slots.{resolved}
 use Rattle.c_stdio.specs.declared.test.Test.{Test}
-use Rattle.test_suite.specs.Suite.{suite, default_limit}
+use Rattle.test_suite.specs.Suite.{stated}
+use Rattle.test_suite.specs.declared.fault.SuiteFault.{SuiteFault}
 use Rattle.repair_job.specs.Patches.{HasFewLocations}
-use Rattle.repair_cli.specs.declared.limits.TheConstants.{SOURCE_LIMIT}
+use Rattle.repair_cli.specs.Literals.{has_literal}
+use Rattle.repair_cli.specs.declared.limits.TheConstants.{SOURCE_LIMIT, SUITE_LIMIT}
 
 -- a source is no longer than one may be
 abbrev pub IsShort : List ℕ → Type 0
@@ -24,27 +26,33 @@ pub record IsCut (bytes : List ℕ) (tokens : Tokens) : Type 0 where
 pub record IsRead (bytes : List ℕ) (tree : List Outer) : Type 0 where
   pub tokens : Tokens
   pub cut : IsCut bytes tokens
-  pub derived : Derives 64 tokens tree
+  pub derived : Derives max_nesting tokens tree
 
--- a tree can be run: it has the plain form, its names are declared, and the program is the tree with the variable of
--- each name; it has few locations
-pub record IsRunnable (tree program : List Outer) : Type 0 where
-  pub plain : is_plain tree ≡ true
-  pub named : IsWellNamed tree
+-- a tree, of a source of that length, keeps the rules of scopes and kinds (C11 6.2, 6.5 to 6.9)
+abbrev pub IsWellTyped : ℕ → List Outer → Type 0
+IsWellTyped end tree = program_faults tree end ≡ []
+
+-- a tree, of a source of that length, is that program: it keeps the rules of scopes and kinds, and the program is the
+-- tree with the variable that each name denotes; it has few locations
+pub record IsRunnable (end : ℕ) (tree program : List Outer) : Type 0 where
+  pub typed : IsWellTyped end tree
   pub is_resolved : program ≡ resolved tree
   pub few : HasFewLocations program
 
--- a source states a program: it has a tree that can be run
+-- A source states a program: it has a tree that is the program. It has no string literal: the functions that take one,
+-- `printf` and `scanf`, can't be run yet.
 pub record IsProgram (bytes : List ℕ) (program : List Outer) : Type 0 where
   pub tree : List Outer
   pub read : IsRead bytes tree
-  pub runnable : IsRunnable tree program
+  pub plain : has_literal read.tokens ≡ false
+  pub runnable : IsRunnable (length bytes) tree program
 
--- these bytes state these tests, each of which may take so many units; no suite says another number so far
+-- these bytes, which are not too many, state these tests, each of which may take so many units
 pub record IsSuite (bytes : List ℕ) (tests : List Test) (limit : ℕ) : Type 0 where
-  pub tests_are : suite bytes ≡ Some tests
-  pub limit_is : limit ≡ default_limit
+  pub short : length bytes ≤ SUITE_LIMIT
+  pub states : stated bytes ≡ Ok (record { tests = tests; limit = limit })
 
--- these bytes state no tests
+-- these bytes state no tests: they are too many, or there is a first refusal
 abbrev pub StatesNoSuite : List ℕ → Type 0
-StatesNoSuite bytes = suite bytes ≡ None
+StatesNoSuite bytes =
+    (SUITE_LIMIT < length bytes) ⊎ ((fault : SuiteFault) × (stated bytes ≡ Err fault))

@@ -1,5 +1,5 @@
 -- Why a source is refused: its first fault, with its place and its words, and the message that these give.
-use Rattle.std.specs.Prelude.{◌≡◌, ◌≢◌, ℕ, ◌<◌, List, length, Option, Some, None, Ok, Err, option_map, codes}
+use Rattle.std.specs.Prelude.{◌≡◌, ◌≢◌, ℕ, ◌<◌, true, List, length, Option, Some, None, Ok, Err, option_map, codes}
 use Rattle.c_tree.specs.Tree.{Outer}
 use Rattle.c_lex.specs.declared.fault.LexFault.{LexFault}
 use Rattle.c_lex.specs.declared.fault.LexFault.TheVariants as lex
@@ -9,11 +9,19 @@ use Rattle.c_grammar.specs.Grammar.{Tokens}
 use Rattle.c_parse.specs.declared.fault.ParseFault.{ParseFault}
 use Rattle.c_parse.specs.declared.fault.ParseFault.TheVariants as parse
 use Rattle.c_parse.specs.FaultWords as parser
-use Rattle.c_parse.specs.Faults.{Causes}
-use Rattle.repair_cli.specs.Accepted.{IsShort, IsCut, IsRead, IsRunnable}
+use Rattle.c_parse.specs.Results.{IsFirstFault}
+use Rattle.c_types.specs.declared.fault.TypeFault.{TypeFault}
+use Rattle.c_types.specs.declared.fault.TypeFault.TheVariants as kinds
+use Rattle.c_types.specs.FaultWords as checker
+use Rattle.c_types.specs.Least.{Causes as CausedBy}
+use Rattle.c_types.specs.Programs.{program_faults}
+use Rattle.c_types.specs.Slots.{resolved}
+use Rattle.repair_job.specs.Patches.{HasFewLocations}
+use Rattle.repair_cli.specs.Accepted.{IsShort, IsCut, IsRead, IsWellTyped}
+use Rattle.repair_cli.specs.Literals.{has_literal}
 use Rattle.repair_cli.specs.Texts.{position_of, faulty}
 use Rattle.repair_cli.specs.declared.fault.ProgramFault.{ProgramFault}
-use Rattle.repair_cli.specs.declared.fault.ProgramFault.TheVariants.{TooLong, Lex, Parse, Unsupported, NoMemory}
+use Rattle.repair_cli.specs.declared.fault.ProgramFault.TheVariants.{TooLong, Lex, Parse, Kinds, Unsupported, NoMemory}
 use Rattle.repair_cli.specs.declared.limits.TheConstants.{SOURCE_LIMIT}
 
 -- the place of a fault in the source, if it has one
@@ -21,6 +29,7 @@ abbrev pub fault_place : ProgramFault → Option ℕ
 fault_place TooLong = None
 fault_place (Lex f) = lexer.place_of f
 fault_place (Parse f) = parser.fault_place f
+fault_place (Kinds f) = checker.place_of f
 fault_place Unsupported = None
 fault_place NoMemory = None
 
@@ -29,19 +38,22 @@ abbrev pub fault_words : ProgramFault → List ℕ
 fault_words TooLong = codes "too long"
 fault_words (Lex f) = lexer.words_of f
 fault_words (Parse f) = parser.fault_words f
+fault_words (Kinds f) = checker.words_of f
 fault_words Unsupported = codes "unsupported"
 fault_words NoMemory = codes "out of memory"
-
--- no program is this tree
-abbrev pub IsNotRunnable : List Outer → Type 0
-IsNotRunnable tree = (program : List Outer) → IsRunnable tree program → ⊥
 
 -- the first fault of a source
 pub data IsFault (bytes : List ℕ) : ProgramFault → Type 0 where
   too_long : SOURCE_LIMIT < length bytes → IsFault bytes TooLong
   of_text : (f : LexFault) → f ≢ lex.NoMemory → IsShort bytes → Lexes bytes (Err f) → IsFault bytes (Lex f)
-  of_tokens : (f : ParseFault) (tokens : Tokens) → f ≢ parse.NoMemory → IsCut bytes tokens → Causes (length bytes) tokens f → IsFault bytes (Parse f)
-  of_tree : (tree : List Outer) → IsRead bytes tree → IsNotRunnable tree → IsFault bytes Unsupported
+  of_tokens : (f : ParseFault) (tokens : Tokens) → f ≢ parse.NoMemory
+      → IsCut bytes tokens → IsFirstFault (length bytes) tokens f → IsFault bytes (Parse f)
+  of_kinds : (f : TypeFault) (tree : List Outer) → f ≢ kinds.NoMemory
+      → IsRead bytes tree → CausedBy f (program_faults tree (length bytes)) → IsFault bytes (Kinds f)
+  of_literal : (tree : List Outer) (read : IsRead bytes tree) → IsWellTyped (length bytes) tree
+      → has_literal read.tokens ≡ true → IsFault bytes Unsupported
+  of_size : (tree : List Outer) → IsRead bytes tree → IsWellTyped (length bytes) tree
+      → ¬ HasFewLocations (resolved tree) → IsFault bytes Unsupported
 
 -- the message that the source of this name, with these bytes, has this fault
 abbrev pub fault_message : List ℕ → List ℕ → ProgramFault → List ℕ

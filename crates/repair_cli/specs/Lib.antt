@@ -4,6 +4,7 @@ pub mod Ends
 pub mod Faults
 pub mod Jobs
 pub mod Laws
+pub mod Literals
 pub mod Message
 pub mod Numbers
 pub mod Parts

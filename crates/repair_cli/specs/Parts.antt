@@ -1,6 +1,7 @@
 -- What the parts of a call do: reading a file, writing an answer and writing a message.
 use Rattle.std.specs.Prelude.{◌≡◌, ◌≢◌, ◌⊎◌, ℕ, List, []}
 use Rattle.repair_job.specs.declared.answer.Answer.{Answer}
+use Rattle.repair_cli.specs.Accepted.{StatesNoSuite}
 use Rattle.repair_cli.specs.Ends.{status_of_answer}
 use Rattle.repair_cli.specs.Faults.{IsFault, Refuses}
 use Rattle.repair_cli.specs.Sinks.{Seen, Appends, Breaks, AppendsOrBreaks}
@@ -27,6 +28,12 @@ GivesNoProgram file ReadFault text = IsUnreadable file × (text ≡ cannot_read 
 GivesNoProgram file ProgramRefused text = HoldsNoProgram file text
 GivesNoProgram file NoMemory text = text ≡ no_memory
 GivesNoProgram file _ text = ⊥
+
+-- the refusal of the suite of this name, with these bytes; running out of memory has no cause
+abbrev pub IsSuiteRefusal : List ℕ → List ℕ → Status → List ℕ → Type 0
+IsSuiteRefusal name bytes SuiteRefused text = StatesNoSuite bytes × (text ≡ bad_suite name)
+IsSuiteRefusal name bytes NoMemory text = text ≡ no_memory
+IsSuiteRefusal name bytes _ text = ⊥
 
 -- why the file gave no suite
 abbrev pub GivesNoSuite : File → Status → List ℕ → Type 0

@@ -3,16 +3,17 @@ ghost use Rattle.std.specs.Prelude.{◌≡◌, ◌≢◌, MatchResult};
 ghost use Rattle.c_lex.specs.declared.fault.LexFault.TheVariants as lex;
 ghost use Rattle.c_parse.specs.declared.fault.ParseFault.TheVariants as parse;
 ghost use Rattle.c_types.specs.Shown.{tree_of};
+ghost use Rattle.c_types.specs.declared.fault.TypeFault.TheVariants as kinds;
 ghost use Rattle.repair_cli.specs.Accepted.{IsProgram, IsShort};
+ghost use Rattle.repair_cli.specs.Literals.{is_literal as literal, has_literal as some_literal};
 ghost use Rattle.repair_cli.specs.Parts.{IsFaultUnless};
-ghost use Rattle.repair_cli.specs.declared.fault.ProgramFault.TheVariants.{Lex, Parse, NoMemory};
+ghost use Rattle.repair_cli.specs.declared.fault.ProgramFault.TheVariants.{Lex, Parse, Kinds, NoMemory};
 
 use crate::fault::ProgramFault;
 use crate::tried::has_few_locations;
-use c_lex::{LexFault, lex};
+use c_lex::{LexFault, Token, TokenKind, lex};
 use c_parse::{ParseFault, parse};
 use c_types::{TypeFault, Typed, check};
-use plain_form::is_plain;
 use std::alloc::Global;
 
 /// The program of this source.
@@ -33,14 +34,13 @@ pub(crate) fn accept(alloc: Global, bytes: &[u8]) -> Result<Typed, ProgramFault>
         Ok(tree) => tree,
         Err(fault) => return Err(of_tokens(fault)),
     };
-    if !is_plain(&tree) {
-        return Err(ProgramFault::Unsupported);
-    }
     let program = match check(alloc, tree, end) {
         Ok(program) => program,
-        Err(TypeFault::Unsupported) => return Err(ProgramFault::Unsupported),
-        Err(TypeFault::NoMemory) => return Err(ProgramFault::NoMemory),
+        Err(fault) => return Err(of_kinds(fault)),
     };
+    if has_literal(&tokens) {
+        return Err(ProgramFault::Unsupported);
+    }
     let few = match has_few_locations(alloc, &program) {
         Ok(few) => few,
         Err(_) => return Err(ProgramFault::NoMemory),
@@ -49,6 +49,28 @@ pub(crate) fn accept(alloc: Global, bytes: &[u8]) -> Result<Typed, ProgramFault>
         return Err(ProgramFault::Unsupported);
     }
     Ok(program)
+}
+
+// Whether the token is a string literal.
+fn is_literal(token: &Token) -> bool
+    ensures { result ≡ literal token.now.0 }
+{
+    match &token.kind {
+        TokenKind::Str(_) => true,
+        _ => false,
+    }
+}
+
+// Whether some token is a string literal.
+fn has_literal(tokens: &[Token]) -> bool
+    ensures { result ≡ some_literal tokens.now }
+{
+    for token in tokens {
+        if is_literal(token) {
+            return true;
+        }
+    }
+    false
 }
 
 // The fault of a program whose text has this one.
@@ -70,5 +92,16 @@ fn of_tokens(fault: ParseFault) -> ProgramFault
     match fault {
         ParseFault::NoMemory => ProgramFault::NoMemory,
         _ => ProgramFault::Parse(fault),
+    }
+}
+
+// The fault of a program whose scopes and kinds have this one.
+fn of_kinds(fault: TypeFault) -> ProgramFault
+    ensures none { fault ≡ kinds.NoMemory → result ≡ NoMemory }
+    ensures some { fault ≢ kinds.NoMemory → result ≡ Kinds fault }
+{
+    match fault {
+        TypeFault::NoMemory => ProgramFault::NoMemory,
+        _ => ProgramFault::Kinds(fault),
     }
 }

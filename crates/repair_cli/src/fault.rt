@@ -4,6 +4,7 @@ ghost use Rattle.repair_cli.specs.Faults.{fault_place, fault_words};
 
 use c_lex::LexFault;
 use c_parse::ParseFault;
+use c_types::TypeFault;
 
 /// Why a source gives no program.
 #[derive(Clone, Copy, Debug, PartialEq, Eq)]
@@ -14,7 +15,10 @@ pub(crate) enum ProgramFault {
     Lex(LexFault),
     /// Its tokens are no program of the language.
     Parse(ParseFault),
-    /// It can't be run yet.
+    /// It breaks a rule of scopes and kinds.
+    Kinds(TypeFault),
+    /// It has a string literal, which is a format of a function that can't be run yet, or more locations than a program
+    /// may have.
     Unsupported,
     /// There was no memory for the work.
     NoMemory,
@@ -28,6 +32,7 @@ impl ProgramFault {
         match self {
             ProgramFault::Lex(fault) => fault.place(),
             ProgramFault::Parse(fault) => fault.place(),
+            ProgramFault::Kinds(fault) => fault.place(),
             ProgramFault::TooLong | ProgramFault::Unsupported | ProgramFault::NoMemory => None,
         }
     }
@@ -40,6 +45,7 @@ impl ProgramFault {
             ProgramFault::TooLong => "too long",
             ProgramFault::Lex(fault) => fault.words(),
             ProgramFault::Parse(fault) => fault.words(),
+            ProgramFault::Kinds(fault) => fault.words(),
             ProgramFault::Unsupported => "unsupported",
             ProgramFault::NoMemory => "out of memory",
         }

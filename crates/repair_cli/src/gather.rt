@@ -1,11 +1,13 @@
 //! Reads the program and the suite that the words name, and judges them.
-ghost use Rattle.std.specs.Prelude.{◌≡◌, ◌≤◌, IfOk, IfErr, IfSome, MatchResult, unwrap_or};
+ghost use Rattle.std.specs.Prelude.{◌≡◌, ◌≢◌, ◌≤◌, Err, IfOk, IfErr, IfSome, MatchResult, unwrap_or};
 ghost use Rattle.fx_io.specs.Held.{Lacks};
 ghost use Rattle.c_types.specs.Shown.{tree_of};
+ghost use Rattle.test_suite.specs.Suite.{stated};
+ghost use Rattle.test_suite.specs.declared.fault.SuiteFault.TheVariants as kinds;
 ghost use Rattle.repair_cli.specs.Accepted.{IsShort};
 ghost use Rattle.repair_cli.specs.Complete.{HasFiles, OnRead};
 ghost use Rattle.repair_cli.specs.Jobs.{job_of, CanBeDone, IsLimit};
-ghost use Rattle.repair_cli.specs.Parts.{GivesNoProgram, GivesNoSuite, IsFaultUnless, IsRefusal};
+ghost use Rattle.repair_cli.specs.Parts.{GivesNoProgram, GivesNoSuite, IsFaultUnless, IsRefusal, IsSuiteRefusal};
 ghost use Rattle.repair_cli.specs.Refusal.{status_of, message_of};
 ghost use Rattle.repair_cli.specs.Source.{source, file, States, Cause, HoldsProgram, HoldsSuite};
 
@@ -139,7 +141,17 @@ fn suite_named<'a, F: Files>(
     };
     match read_suite(alloc, &bytes) {
         Ok(suite) => Ok(suite),
-        Err(SuiteFault::BadSuite) => Err(Refusal::Suite(name)),
-        Err(SuiteFault::NoMemory) => Err(Refusal::Memory),
+        Err(fault) => Err(refused_suite(name, &bytes, fault)),
+    }
+}
+
+// The refusal of the suite of this name for this fault.
+fn refused_suite<'a>(name: &'a str, bytes: &[u8], fault: SuiteFault) -> Refusal<'a>
+    requires { fault ≢ kinds.NoMemory → stated bytes.now ≡ Err fault }
+    ensures { IsSuiteRefusal name.now bytes.now (status_of result) (message_of result) }
+{
+    match fault {
+        SuiteFault::NoMemory => Refusal::Memory,
+        _ => Refusal::Suite(name),
     }
 }

@@ -1,4 +1,4 @@
-//! Sources that are refused, with the message of each first fault, and sources that are read as the plain form.
+//! Sources that are refused, with the message of each first fault, and sources that are spelled in other ways.
 
 use super::{Bytes, LINE, PASSED, SURE, Want, call};
 use std::alloc::Global;
@@ -69,33 +69,55 @@ fn reports_the_first_fault_of_a_text(rt: HostRuntime) -> Result<(), Fail> {
 }
 
 #[test]
-fn reports_what_cannot_be_run_yet(rt: HostRuntime) -> Result<(), Fail> {
+fn reports_the_first_fault_of_scopes_and_kinds(rt: HostRuntime) -> Result<(), Fail> {
     let table = [
-        "int main(void) { int a, b; }",
-        "int main(void) { int a = 1; }",
-        "int main(void) { char a; }",
-        "int main(void) { int a; a = EOF; }",
-        "#define N -1\nint main(void) { return N; }",
-        "int main(void) { return '\\377'; }",
-        "int main(void) { if (1 < 2) ; }",
-        "int main(void) { if (1) { } }",
-        "int main(void) { return 1 + 2 + 3; }",
-        "int main(void) { return; }",
-        "int main(void) { { } }",
-        "int a; int main(void) { }",
-        "void main(void) { }",
-        "int f(void) { return 0; }",
-        "int main(void);",
-        "int main(void) { printf(\"a\"); }",
+        ("int main(void) { a = 1; }", "p.c:1:18: unknown name\n"),
+        (
+            "int main(void) { int a; int a; }",
+            "p.c:1:29: declared twice\n",
+        ),
+        (
+            "int a[2]; int main(void) { return a; }",
+            "p.c:1:35: wrong kind\n",
+        ),
+        (
+            "int f(int a) { return a; }\nint main(void) { return f(); }",
+            "p.c:2:25: wrong count\n",
+        ),
+        ("int main(void) { 1 = 2; }", "p.c:1:18: not a place\n"),
+        (
+            "int a = getchar();\nint main(void) { }",
+            "p.c:1:9: not a constant\n",
+        ),
+        (
+            "int main(void) { int a[0]; }",
+            "p.c:1:22: bad array length\n",
+        ),
+        ("int main(void) { break; }", "p.c:1:18: outside a loop\n"),
+        (
+            "int main(void) { printf(\"%x\"); }",
+            "p.c:1:25: bad format\n",
+        ),
+        ("int f(void) { return 0; }\n", "p.c:2:1: no main\n"),
+        // Faults come before what can't be run yet.
+        (
+            "int main(void) { printf(\"a\"); a; }",
+            "p.c:1:31: unknown name\n",
+        ),
+        ("int main(void) { printf(\"a\"); }", "p.c: unsupported\n"),
+        (
+            "int main(void) { int a; scanf(\"%d\", &a); }",
+            "p.c: unsupported\n",
+        ),
     ];
-    for program in table {
-        refuses(&rt, rt.alloc(), program, "p.c: unsupported\n")?;
+    for (program, message) in table {
+        refuses(&rt, rt.alloc(), program, message)?;
     }
     Ok(())
 }
 
 #[test]
-fn reads_other_spellings_of_the_plain_form(rt: HostRuntime) -> Result<(), Fail> {
+fn reads_other_spellings(rt: HostRuntime) -> Result<(), Fail> {
     let table = [
         "int main() { putchar(getchar() + 1); return 0; }",
         "int main(void) { putchar(getchar() + 0x1); return 00; }",

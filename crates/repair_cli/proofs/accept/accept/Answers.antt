@@ -1,16 +1,17 @@
-use Rattle.std.proofs.Common.{◌≡◌, ◌≢◌, ◌∙◌, List, ℕ, Ok, true, false, sym, subst}
+use Rattle.std.proofs.Common.{◌≡◌, ◌≢◌, ◌∙◌, List, ℕ, Ok, true, false, ap, sym, subst}
 use Rattle.c_tree.specs.Views.{program}
 use Rattle.c_lex.specs.Tokens.{Lexes}
 use Rattle.c_lex.specs.declared.fault.LexFault.TheVariants as lex
 use Rattle.c_grammar.specs.Grammar.{Tokens}
 use Rattle.c_parse.specs.declared.fault.ParseFault.TheVariants as parse
 use Rattle.c_types.specs.Shown.{tree_of}
-use Rattle.plain_form.specs.Form.{is_plain}
+use Rattle.c_types.specs.Slots.{resolved}
+use Rattle.c_types.specs.declared.fault.TypeFault.TheVariants as kinds
 use Rattle.repair_job.specs.Patches.{HasFewLocations}
 use Rattle.repair_cli.specs.Accepted.{IsShort, IsCut, IsRead}
 use Rattle.repair_cli.specs.Faults.{IsFault}
+use Rattle.repair_cli.specs.Literals.{has_literal}
 use Rattle.repair_cli.specs.declared.fault.ProgramFault.{ProgramFault}
-use Rattle.repair_cli.proofs.Accepting.{not_plain, not_named, not_few}
 use Rattle.repair_cli.proofs.accept.accept.Goals as goal
 
 -- a source has the tokens that were lent
@@ -31,20 +32,23 @@ returns-in-Err-parse c =
     subst (λ (f : ProgramFault). IsFault c.args.bytes.now f) (sym (c.of_tokens.ensures.some n))
     (IsFault.of_tokens c.in-Err-parse.fault c.deref.result.now n (cut _ _ _ c.requires c.in-Ok.ensures.ok c.deref.ensures.value) c.in-Err-parse.ensures.refused)
 
-pub returns-then-not-is_plain : goal.returns-then-not-is_plain
-returns-then-not-is_plain c =
+pub returns-in-Err-check : goal.returns-in-Err-check
+returns-in-Err-check c =
     λ h.
+    let n : c.in-Err-check.fault ≢ kinds.NoMemory = λ e. h (c.of_kinds.ensures.none e) in
     let read : IsRead c.args.bytes.now (program c.in-Ok-parse.tree) =
     record { tokens = c.deref.result.now; cut = cut _ _ _ c.requires c.in-Ok.ensures.ok c.deref.ensures.value; derived = c.in-Ok-parse.ensures.derived } in
-    let e : is_plain (program c.in-Ok-parse.tree) ≡ false = sym c.is_plain.ensures ∙ c.if-not-is_plain.true in
-    IsFault.of_tree (program c.in-Ok-parse.tree) read (not_plain (program c.in-Ok-parse.tree) e)
+    subst (λ (f : ProgramFault). IsFault c.args.bytes.now f) (sym (c.of_kinds.ensures.some n))
+    (IsFault.of_kinds c.in-Err-check.fault (program c.in-Ok-parse.tree) n read c.in-Err-check.ensures.refused)
 
-pub returns-in-Err-Unsupported : goal.returns-in-Err-Unsupported
-returns-in-Err-Unsupported c =
+pub returns-then-has_literal : goal.returns-then-has_literal
+returns-then-has_literal c =
     λ h.
-    let read : IsRead c.args.bytes.now (program c.in-Ok-parse.tree) =
+    let tree = program c.in-Ok-parse.tree in
+    let read : IsRead c.args.bytes.now tree =
     record { tokens = c.deref.result.now; cut = cut _ _ _ c.requires c.in-Ok.ensures.ok c.deref.ensures.value; derived = c.in-Ok-parse.ensures.derived } in
-    IsFault.of_tree (program c.in-Ok-parse.tree) read (not_named (program c.in-Ok-parse.tree) (rw c.in-Err-Unsupported.field-0-is at c.in-Err-Unsupported.ensures.refused))
+    IsFault.of_literal tree read c.in-Ok-check.ensures.accepted
+    (ap has_literal (c.deref.ensures.value ∙ sym c.deref-2.ensures.value) ∙ sym c.has_literal.ensures ∙ c.if-has_literal.true)
 
 pub returns-then-not-few : goal.returns-then-not-few
 returns-then-not-few c =
@@ -56,4 +60,21 @@ returns-then-not-few c =
     let many : HasFewLocations own → ⊥ =
     λ few. let t : c.in-Ok-has_few_locations.few ≡ true = c.in-Ok-has_few_locations.ensures.1 few in
     let f : c.in-Ok-has_few_locations.few ≡ false = c.if-not-few.true in absurd (cc) in
-    IsFault.of_tree tree read (not_few tree own c.in-Ok-check.ensures.resolved many)
+    let of_tree : HasFewLocations (resolved tree) → ⊥ = λ few. many (subst HasFewLocations (sym c.in-Ok-check.ensures.resolved) few) in
+    IsFault.of_size tree read c.in-Ok-check.ensures.accepted of_tree
+
+pub returns : goal.returns
+returns c =
+    let tree = program c.in-Ok-parse.tree in
+    let read : IsRead c.args.bytes.now tree =
+    record { tokens = c.deref.result.now; cut = cut _ _ _ c.requires c.in-Ok.ensures.ok c.deref.ensures.value; derived = c.in-Ok-parse.ensures.derived } in
+    record {
+      tree = tree;
+      read = read;
+      plain = ap has_literal (c.deref.ensures.value ∙ sym c.deref-2.ensures.value) ∙ sym c.has_literal.ensures ∙ c.if-has_literal.false;
+      runnable = record {
+        typed = c.in-Ok-check.ensures.accepted;
+        is_resolved = c.in-Ok-check.ensures.resolved;
+        few = c.in-Ok-has_few_locations.ensures.0 c.if-not-few.false;
+      };
+    }
