@@ -1,16 +1,12 @@
 #include <stdio.h>
+
+/* Counts the lines of the input, nine at most. */
 int main(void) {
-    int byte;
-    int lines;
-    lines = 0;
-    byte = getchar();
-    while (byte >= 0) {
-        if (byte == 10) {
-            lines = lines + 1;
-        }
-        byte = getchar();
-    }
-    putchar(lines + 48);
-    putchar(10);
+    int c, lines = 0;
+    while ((c = getchar()) != EOF)
+        if (c == '\n')
+            lines++;
+    putchar('0' + lines);
+    putchar('\n');
     return 0;
 }

@@ -1,15 +1,12 @@
 #include <stdio.h>
+
+/* Writes the input in capitals. */
 int main(void) {
-    int byte;
-    byte = getchar();
-    while (byte >= 0) {
-        if (byte >= 97) {
-            if (byte <= 122) {
-                byte = byte - 31;
-            }
-        }
-        putchar(byte);
-        byte = getchar();
+    int c;
+    while ((c = getchar()) != EOF) {
+        if (c >= 'a' && c <= 'z')
+            c = c - 31;
+        putchar(c);
     }
     return 0;
 }
