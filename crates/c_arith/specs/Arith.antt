@@ -42,7 +42,9 @@ fitting ty z = if in_range ty z then Some z else None
 -- the least number from 0 on that equals a number modulo the number of the type's values, or where that is too large
 -- for the type, that number less the number of the type's values
 abbrev pub reduced : Ty → ℤ → ℤ
-reduced ty z = let rest = int_rem_euclid z (count_of ty) in if int_le rest (greatest ty) then rest else rest -ℤ count_of ty
+reduced ty z =
+    let rest = int_rem_euclid z (count_of ty) in
+    if int_le rest (greatest ty) then rest else rest -ℤ count_of ty
 
 -- the value of the type that equals a number modulo the number of the type's values; a value of the type is unchanged
 -- (C11 6.3.1.3)
@@ -116,10 +118,12 @@ over_power (negsuc a) n = negsuc (a / 2 ^ n)
 abbrev pub op : Ty → BinOp → ℤ → ℤ → Option ℤ
 op ty Mul a b = fitting ty (a *ℤ b)
 op ty Div a b = if is_zero b then None else fitting ty (int_div a b)
-op ty Rem a b = if is_zero b then None else (if in_range ty (int_div a b) then Some (int_rem a b) else None)
+op ty Rem a b =
+    if is_zero b then None else (if in_range ty (int_div a b) then Some (int_rem a b) else None)
 op ty Add a b = fitting ty (a +ℤ b)
 op ty Sub a b = fitting ty (a -ℤ b)
-op ty Shl a b = if may_shift ty b && int_le (pos 0) a then fitting ty (times_power a (unsigned_abs b)) else None
+op ty Shl a b =
+    if may_shift ty b && int_le (pos 0) a then fitting ty (times_power a (unsigned_abs b)) else None
 op ty Shr a b = if may_shift ty b then Some (over_power a (unsigned_abs b)) else None
 op ty Lt a b = Some (truth (int_lt a b))
 op ty Le a b = Some (truth (int_le a b))

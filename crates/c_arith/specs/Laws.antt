@@ -15,11 +15,13 @@ ConversionIsModulo = (ty : Ty) (z : ℤ) → (k : ℤ) × (z ≡ convert ty z +�
 
 -- no other value of the type does
 abbrev pub ConversionIsUnique : Type 0
-ConversionIsUnique = (ty : Ty) (z v k : ℤ) → IsTrue (in_range ty v) → z ≡ v +ℤ k *ℤ count_of ty → convert ty z ≡ v
+ConversionIsUnique =
+    (ty : Ty) (z v k : ℤ) → IsTrue (in_range ty v) → z ≡ v +ℤ k *ℤ count_of ty → convert ty z ≡ v
 
 -- where `/` and `%` have values, the quotient times the divisor and the remainder are the number (C11 6.5.5 p6)
 abbrev pub DivisionIsWhole : Type 0
-DivisionIsWhole = (ty : Ty) (a b q r : ℤ) → op ty Div a b ≡ Some q → op ty Rem a b ≡ Some r → q *ℤ b +ℤ r ≡ a
+DivisionIsWhole =
+    (ty : Ty) (a b q r : ℤ) → op ty Div a b ≡ Some q → op ty Rem a b ≡ Some r → q *ℤ b +ℤ r ≡ a
 
 -- a remainder is nearer to 0 than the divisor
 abbrev pub RemaindersAreLess : Type 0

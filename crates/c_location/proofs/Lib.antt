@@ -1,6 +1,6 @@
 mod SpanLemmas
 mod TallyLemmas
-mod Places
+pub mod Places
 mod Elsewhere
 mod Rises
 mod Sound

@@ -14,8 +14,9 @@ use Rattle.c_tree.specs.declared.stmt.StmtNode.{StmtNode}
 use Rattle.c_tree.specs.declared.stmt.StmtNode.TheVariants.{Block}
 use Rattle.c_tree.specs.Views.{tree, node_tree, args_of, code, node_code, body_of}
 use Rattle.c_tree.proofs.ViewsLemmas.{node-Call, node-Block}
+use Rattle.c_location.specs.declared.part.Part.{Part as Lent}
 use Rattle.c_location.specs.Locations.{Part, Located, is_at, in_tree, in_args, in_code, in_body}
-use Rattle.c_location.specs.Shown.{found_at}
+use Rattle.c_location.specs.Shown.{lent, found_at}
 use Rattle.c_location.proofs.SpanLemmas.{span_of-tree, span_of-code}
 
 -- the part of the first of two
@@ -27,7 +28,17 @@ part-or (Some x) b = refl
 pub found_at-append : (l : Loc) (xs ys : List Located) → found_at l (xs ++ ys) ≡ option_or (found_at l xs) (found_at l ys)
 found_at-append l xs ys = ap (option_map (λ (x : Located). x.part)) (find-append (is_at l) xs ys) ∙ part-or (find (is_at l) xs) (find (is_at l) ys)
 
-pub ruleset part_steps = (found_at-append, span_of-tree, span_of-code)
+-- the part that is lent, of the first of two
+pub lent-or : (a b : Option Lent) → option_map lent (option_or a b) ≡ option_or (option_map lent a) (option_map lent b)
+lent-or None b = refl
+lent-or (Some x) b = refl
+
+-- what is lent of two lists is lent of the first, or else of the second
+pub either-found : (l : Loc) (xs ys : List Located) (a b r : Option Lent) → r ≡ option_or a b → option_map lent a ≡ found_at l xs → option_map lent b ≡ found_at l ys → option_map lent r ≡ found_at l (xs ++ ys)
+either-found l xs ys a b r is p q =
+    ap (option_map lent) is ∙ lent-or a b ∙ ap (λ z. option_or z (option_map lent b)) p ∙ ap (option_or (found_at l xs)) q ∙ sym (found_at-append l xs ys)
+
+pub ruleset part_steps = (found_at-append, lent-or, span_of-tree, span_of-code)
 
 -- what is found in a call is found in its arguments
 pub found_at-Call : (l : Loc) (e : Expr) (word : List ℕ) (args : Vec Arg Global) → e.node ≡ Call word args → found_at l (in_tree (tree e)) ≡ found_at l (in_args (args_of args.items))

@@ -14,7 +14,8 @@ LocationsRise = (from to : ℕ) (p : List Outer) → ProgramIn from to p → Ris
 
 -- each location names one place
 abbrev pub EachNamesOnePlace : Type 0
-EachNamesOnePlace = (from to : ℕ) (p : List Outer) (l : Loc) → ProgramIn from to p → Contains (locations p) l → NamesOnePlace l p
+EachNamesOnePlace = (from to : ℕ) (p : List Outer) (l : Loc) → ProgramIn from to p →
+    Contains (locations p) l → NamesOnePlace l p
 
 -- two locations that begin at the same byte are the same
 abbrev pub OneAtEachByte : Type 0
@@ -23,4 +24,5 @@ OneAtEachByte = (from to : ℕ) (p : List Outer) (a b : Loc) → ProgramIn from 
 
 -- nothing changes at what is no location of the program, in whatever order its spans are
 abbrev pub NothingElsewhere : Type 0
-NothingElsewhere = (p : List Outer) (l : Loc) (r : Rewrite) → ¬ Contains (locations p) l → rewritten l r p ≡ p
+NothingElsewhere =
+    (p : List Outer) (l : Loc) (r : Rewrite) → ¬ Contains (locations p) l → rewritten l r p ≡ p

@@ -73,7 +73,8 @@ abbrev mutual
   holes_in_code (if_else t a b s) = holes_in t + holes_in_code a + holes_in_code b
   holes_in_code (while t a s) = holes_in t + holes_in_code a
   holes_in_code (do_while a t s) = holes_in_code a + holes_in t
-  holes_in_code (for i t u a s) = holes_in_first i + holes_in_option t + holes_in_option u + holes_in_code a
+  holes_in_code (for i t u a s) =
+      holes_in_first i + holes_in_option t + holes_in_option u + holes_in_code a
   holes_in_code (give e s) = holes_in_option e
   holes_in_code (break s) = 0
   holes_in_code (continue s) = 0

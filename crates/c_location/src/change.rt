@@ -33,7 +33,8 @@ pub fn nothing(alloc: Global) -> ExprNode {
 
 /// Joins the expression to a copy of the other one, in its own text.
 fn join(alloc: Global, e: &mut Expr, op: BinOp, other: &Expr) -> Result<(), NoMemory>
-    ensures { OnOk result (tree e.new ≡ binary op (tree e.old) (tree other.now) (span_of (tree e.old))) }
+    ensures { OnOk result (tree e.new ≡
+        binary op (tree e.old) (tree other.now) (span_of (tree e.old))) }
 {
     let right = Box::new(alloc, copy_expr(alloc, other)?)?;
     let span = e.span;
@@ -60,7 +61,8 @@ pub fn change_part(alloc: Global, e: &mut Expr, change: &Change) -> Result<(), N
 
 /// The one item of the block: an `if` with a copy of the test round the statement.
 fn guard(alloc: Global, node: StmtNode, span: Span, test: &Expr) -> Result<Vec<Item>, NoMemory>
-    ensures { IfOk result (λ r. body_of r.items ≡ next (if_then (tree test.now) (node_code node span) span) done) }
+    ensures { IfOk result (λ r. body_of r.items ≡
+        next (if_then (tree test.now) (node_code node span) span) done) }
 {
     let test = copy_expr(alloc, test)?;
     let yes = Box::new(alloc, Stmt { node, span })?;
@@ -76,7 +78,8 @@ fn guard(alloc: Global, node: StmtNode, span: Span, test: &Expr) -> Result<Vec<I
 
 /// A block that holds an `if` with a copy of the test round the statement.
 fn guarded(alloc: Global, node: StmtNode, span: Span, test: &Expr) -> Result<StmtNode, NoMemory>
-    ensures { IfOk result (λ r. node_code r span ≡ (guard_of (tree test.now)).code (node_code node span)) }
+    ensures { IfOk result (λ r. node_code r span ≡
+        (guard_of (tree test.now)).code (node_code node span)) }
 {
     Ok(StmtNode::Block(guard(alloc, node, span, test)?))
 }

@@ -1,12 +1,12 @@
 //! What stands at a location of a program.
 #![tactic(auto, using(crate::proofs::PartLemmas::part_steps))]
 
-ghost use Rattle.std.specs.Prelude.{◌≡◌, ◌++◌, map};
+ghost use Rattle.std.specs.Prelude.{◌≡◌, ◌++◌, [], ◌∷◌, map};
 ghost use Rattle.std.specs.List.{flat_map};
 ghost use Rattle.std.specs.Option.{option_map, option_or};
 ghost use Rattle.c_tree.specs.Tree.{Args, Body};
 ghost use Rattle.c_tree.specs.Views.{tree, args_of, with_arg, trees, tree_option, initial, variables, first, code, body_of, with_item, outer, program as tree_program};
-ghost use Rattle.c_location.specs.Locations.{stands, assigned, in_tree, in_args, in_condition as of_condition, in_right_side as of_right_side, in_test as of_test, in_step as of_step, in_value as of_value, in_initial, in_variables, in_first, in_code, in_body, in_outer, located, part_at as part};
+ghost use Rattle.c_location.specs.Locations.{guard, stands, assigned, in_tree, in_args, in_condition as of_condition, in_right_side as of_right_side, in_test as of_test, in_step as of_step, in_value as of_value, in_initial, in_variables, in_first, in_code, in_body, in_outer, located, part_at as part};
 ghost use Rattle.c_location.specs.Shown.{lent, found_at};
 
 use c_tree::{
@@ -226,6 +226,16 @@ fn in_head<'a>(
     in_step(step, l)
 }
 
+/// The statement, if the location is its guard.
+fn in_guard<'a>(st: &'a Stmt, l: &Loc) -> Option<Part<'a>>
+    ensures { option_map lent result ≡ found_at l.now (guard (code st.now) ∷ []) }
+{
+    if is_at(l, LocKind::Guard, st.span) {
+        return Some(Part::Stmt(st));
+    }
+    None
+}
+
 /// The same of a statement.
 #[cycle(in_stmt)]
 fn in_stmt<'a>(st: &'a Stmt, l: &Loc) -> Option<Part<'a>>
@@ -233,66 +243,25 @@ fn in_stmt<'a>(st: &'a Stmt, l: &Loc) -> Option<Part<'a>>
 {
     match &st.node {
         StmtNode::Empty => None,
-        StmtNode::Act(e) => {
-            if is_at(l, LocKind::Guard, st.span) {
-                return Some(Part::Stmt(st));
-            }
-            in_expr(e, l)
-        }
+        StmtNode::Act(e) => in_guard(st, l).or(in_expr(e, l)),
         StmtNode::Block(items) => in_items(items, l),
         StmtNode::If { test, yes, no } => {
-            if is_at(l, LocKind::Cond, test.span) {
-                return Some(Part::Expr(test));
-            }
-            if let Some(found) = in_expr(test, l) {
-                return Some(found);
-            }
-            if let Some(found) = in_stmt(yes, l) {
-                return Some(found);
-            }
+            let found = in_condition(test, l).or(in_stmt(yes, l));
             match no {
-                None => None,
-                Some(no) => in_stmt(no, l),
+                None => found,
+                Some(no) => found.or(in_stmt(no, l)),
             }
         }
-        StmtNode::While { test, body } => {
-            if is_at(l, LocKind::Cond, test.span) {
-                return Some(Part::Expr(test));
-            }
-            if let Some(found) = in_expr(test, l) {
-                return Some(found);
-            }
-            in_stmt(body, l)
-        }
-        StmtNode::Do { body, test } => {
-            if let Some(found) = in_stmt(body, l) {
-                return Some(found);
-            }
-            in_condition(test, l)
-        }
+        StmtNode::While { test, body } => in_condition(test, l).or(in_stmt(body, l)),
+        StmtNode::Do { body, test } => in_stmt(body, l).or(in_condition(test, l)),
         StmtNode::For {
             init,
             test,
             step,
             body,
-        } => {
-            if let Some(found) = in_head(init, test, step, l) {
-                return Some(found);
-            }
-            in_stmt(body, l)
-        }
-        StmtNode::Return(value) => {
-            if is_at(l, LocKind::Guard, st.span) {
-                return Some(Part::Stmt(st));
-            }
-            in_value(value, l)
-        }
-        StmtNode::Break | StmtNode::Continue => {
-            if is_at(l, LocKind::Guard, st.span) {
-                return Some(Part::Stmt(st));
-            }
-            None
-        }
+        } => in_head(init, test, step, l).or(in_stmt(body, l)),
+        StmtNode::Return(value) => in_guard(st, l).or(in_value(value, l)),
+        StmtNode::Break | StmtNode::Continue => in_guard(st, l),
     }
 }
 

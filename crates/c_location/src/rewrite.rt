@@ -35,7 +35,8 @@ fn changed_node(
     l: &Loc,
     change: &Change,
 ) -> Result<ExprNode, NoMemory>
-    ensures { IfOk result (λ r. (s : Span) → node_tree r s ≡ to_tree l.now (rewrite_of change.now) (node_tree node s)) }
+    ensures { IfOk result (λ r. (s : Span) →
+        node_tree r s ≡ to_tree l.now (rewrite_of change.now) (node_tree node s)) }
 {
     match node {
         ExprNode::Const { value, word } => Ok(ExprNode::Const { value, word }),
@@ -116,7 +117,8 @@ fn change_assigned(
     l: &Loc,
     change: &Change,
 ) -> Result<(), NoMemory>
-    ensures { OnOk result (tree value.new ≡ at_assigned l.now (rewrite_of change.now) op (tree value.old)
+    ensures { OnOk result (tree value.new ≡
+        at_assigned l.now (rewrite_of change.now) op (tree value.old)
         (to_tree l.now (rewrite_of change.now) (tree value.old))) }
 {
     match op {
@@ -146,7 +148,8 @@ fn change_here(
 /// Changes the arguments of a call.
 #[cycle(change_expr)]
 fn change_args(alloc: Global, args: &mut [Arg], l: &Loc, change: &Change) -> Result<(), NoMemory>
-    ensures { OnOk result (args_of args.new ≡ to_args l.now (rewrite_of change.now) (args_of args.old)) }
+    ensures { OnOk result (args_of args.new ≡
+        to_args l.now (rewrite_of change.now) (args_of args.old)) }
 {
     for arg in args {
         change_arg(alloc, arg, l, change)?;
@@ -174,7 +177,8 @@ fn change_test(
     l: &Loc,
     change: &Change,
 ) -> Result<(), NoMemory>
-    ensures { OnOk result (tree_option test.new ≡ to_test l.now (rewrite_of change.now) (tree_option test.old)) }
+    ensures { OnOk result (tree_option test.new ≡
+        to_test l.now (rewrite_of change.now) (tree_option test.old)) }
 {
     match test {
         None => Ok(()),
@@ -189,7 +193,8 @@ fn change_step(
     l: &Loc,
     change: &Change,
 ) -> Result<(), NoMemory>
-    ensures { OnOk result (tree_option step.new ≡ to_step l.now (rewrite_of change.now) (tree_option step.old)) }
+    ensures { OnOk result (tree_option step.new ≡
+        to_step l.now (rewrite_of change.now) (tree_option step.old)) }
 {
     match step {
         None => Ok(()),
@@ -204,7 +209,8 @@ fn change_value(
     l: &Loc,
     change: &Change,
 ) -> Result<(), NoMemory>
-    ensures { OnOk result (tree_option value.new ≡ to_value l.now (rewrite_of change.now) (tree_option value.old)) }
+    ensures { OnOk result (tree_option value.new ≡
+        to_value l.now (rewrite_of change.now) (tree_option value.old)) }
 {
     match value {
         None => Ok(()),
@@ -224,7 +230,8 @@ fn change_exprs(alloc: Global, es: &mut [Expr], l: &Loc, change: &Change) -> Res
 
 /// Changes the initialiser.
 fn change_start(alloc: Global, start: &mut Start, l: &Loc, change: &Change) -> Result<(), NoMemory>
-    ensures { OnOk result (initial start.new ≡ to_initial l.now (rewrite_of change.now) (initial start.old)) }
+    ensures { OnOk result (initial start.new ≡
+        to_initial l.now (rewrite_of change.now) (initial start.old)) }
 {
     match start {
         Start::Bare => Ok(()),
@@ -240,7 +247,8 @@ fn change_declarator(
     l: &Loc,
     change: &Change,
 ) -> Result<(), NoMemory>
-    ensures { OnOk result (variable declarator.new ≡ to_variable l.now (rewrite_of change.now) (variable declarator.old)) }
+    ensures { OnOk result (variable declarator.new ≡
+        to_variable l.now (rewrite_of change.now) (variable declarator.old)) }
 {
     change_start(alloc, &mut declarator.start, l, change)
 }
@@ -252,7 +260,8 @@ fn change_declarators(
     l: &Loc,
     change: &Change,
 ) -> Result<(), NoMemory>
-    ensures { OnOk result (variables declarators.new ≡ map (to_variable l.now (rewrite_of change.now)) (variables declarators.old)) }
+    ensures { OnOk result (variables declarators.new ≡
+        map (to_variable l.now (rewrite_of change.now)) (variables declarators.old)) }
 {
     for declarator in declarators {
         change_declarator(alloc, declarator, l, change)?;
@@ -279,7 +288,8 @@ fn changed_act(
     l: &Loc,
     change: &Change,
 ) -> Result<StmtNode, NoMemory>
-    ensures { IfOk result (λ r. node_code r span ≡ to_code l.now (rewrite_of change.now) (act (tree e) span)) }
+    ensures { IfOk result (λ r. node_code r span ≡
+        to_code l.now (rewrite_of change.now) (act (tree e) span)) }
 {
     if is_at(l, LocKind::Guard, span) {
         return changed_statement(alloc, StmtNode::Act(e), span, change);
@@ -296,7 +306,8 @@ fn changed_return(
     l: &Loc,
     change: &Change,
 ) -> Result<StmtNode, NoMemory>
-    ensures { IfOk result (λ r. node_code r span ≡ to_code l.now (rewrite_of change.now) (give (tree_option value) span)) }
+    ensures { IfOk result (λ r. node_code r span ≡
+        to_code l.now (rewrite_of change.now) (give (tree_option value) span)) }
 {
     if is_at(l, LocKind::Guard, span) {
         return changed_statement(alloc, StmtNode::Return(value), span, change);
@@ -314,7 +325,8 @@ fn changed_jump(
     l: &Loc,
     change: &Change,
 ) -> Result<StmtNode, NoMemory>
-    ensures { IfOk result (λ r. node_code r span ≡ at_code l.now (rewrite_of change.now) (node_code jump span) (node_code jump span)) }
+    ensures { IfOk result (λ r. node_code r span ≡
+        at_code l.now (rewrite_of change.now) (node_code jump span) (node_code jump span)) }
 {
     if is_at(l, LocKind::Guard, span) {
         return changed_statement(alloc, jump, span, change);
@@ -341,7 +353,8 @@ fn changed_kind(
     l: &Loc,
     change: &Change,
 ) -> Result<StmtNode, NoMemory>
-    ensures { IfOk result (λ r. node_code r span ≡ to_code l.now (rewrite_of change.now) (node_code node span)) }
+    ensures { IfOk result (λ r. node_code r span ≡
+        to_code l.now (rewrite_of change.now) (node_code node span)) }
 {
     match node {
         StmtNode::Empty => Ok(StmtNode::Empty),
@@ -409,7 +422,8 @@ fn changed_kind(
 /// Changes the items of a block.
 #[cycle(change_stmt)]
 fn change_items(alloc: Global, items: &mut [Item], l: &Loc, change: &Change) -> Result<(), NoMemory>
-    ensures { OnOk result (body_of items.new ≡ to_body l.now (rewrite_of change.now) (body_of items.old)) }
+    ensures { OnOk result (body_of items.new ≡
+        to_body l.now (rewrite_of change.now) (body_of items.old)) }
 {
     for item in items {
         change_item(alloc, item, l, change)?;
@@ -420,7 +434,8 @@ fn change_items(alloc: Global, items: &mut [Item], l: &Loc, change: &Change) -> 
 /// Changes an item.
 #[cycle(change_stmt)]
 fn change_item(alloc: Global, item: &mut Item, l: &Loc, change: &Change) -> Result<(), NoMemory>
-    ensures { OnOk result ((rest : Body) → with_item item.new (to_body l.now (rewrite_of change.now) rest)
+    ensures { OnOk result ((rest : Body) →
+        with_item item.new (to_body l.now (rewrite_of change.now) rest)
         ≡ to_body l.now (rewrite_of change.now) (with_item item.old rest)) }
 {
     match item {
@@ -436,7 +451,8 @@ fn change_body(
     l: &Loc,
     change: &Change,
 ) -> Result<(), NoMemory>
-    ensures { OnOk result (body_option body.new ≡ to_definition l.now (rewrite_of change.now) (body_option body.old)) }
+    ensures { OnOk result (body_option body.new ≡
+        to_definition l.now (rewrite_of change.now) (body_option body.old)) }
 {
     match body {
         None => Ok(()),
@@ -451,7 +467,8 @@ fn change_external(
     l: &Loc,
     change: &Change,
 ) -> Result<(), NoMemory>
-    ensures { OnOk result (outer external.new ≡ to_outer l.now (rewrite_of change.now) (outer external.old)) }
+    ensures { OnOk result (outer external.new ≡
+        to_outer l.now (rewrite_of change.now) (outer external.old)) }
 {
     match external {
         External::Vars(..) => Ok(()),
@@ -466,7 +483,8 @@ fn change_externals(
     l: &Loc,
     change: &Change,
 ) -> Result<(), NoMemory>
-    ensures { OnOk result (map outer externals.new ≡ rewritten l.now (rewrite_of change.now) (map outer externals.old)) }
+    ensures { OnOk result (map outer externals.new ≡
+        rewritten l.now (rewrite_of change.now) (map outer externals.old)) }
 {
     for external in externals {
         change_external(alloc, external, l, change)?;
@@ -486,7 +504,8 @@ pub fn change_at(
     l: &Loc,
     change: &Change,
 ) -> Result<(), NoMemory>
-    ensures { OnOk result (tree_program program.new ≡ rewritten l.now (rewrite_of change.now) (tree_program program.old)) }
+    ensures { OnOk result (tree_program program.new ≡
+        rewritten l.now (rewrite_of change.now) (tree_program program.old)) }
 {
     change_externals(alloc, &mut program.externals, l, change)
 }

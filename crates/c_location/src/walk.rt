@@ -64,7 +64,8 @@ fn add_args(found: &mut Tally, args: &[Arg]) -> Result<(), NoMemory>
 
 #[cycle(add_expr)]
 fn add_arg(found: &mut Tally, arg: &Arg) -> Result<(), NoMemory>
-    ensures { OnOk result ((rest : Args) → with_all found.old (in_args (with_arg arg.now rest)) ≡ with_all found.new (in_args rest)) }
+    ensures { OnOk result ((rest : Args) →
+        with_all found.old (in_args (with_arg arg.now rest)) ≡ with_all found.new (in_args rest)) }
 {
     match arg {
         Arg::Value(e) | Arg::Address(e) => add_expr(found, e),
@@ -213,7 +214,8 @@ fn add_items(found: &mut Tally, items: &[Item]) -> Result<(), NoMemory>
 
 #[cycle(add_stmt)]
 fn add_item(found: &mut Tally, item: &Item) -> Result<(), NoMemory>
-    ensures { OnOk result ((rest : Body) → with_all found.old (in_body (with_item item.now rest)) ≡ with_all found.new (in_body rest)) }
+    ensures { OnOk result ((rest : Body) →
+        with_all found.old (in_body (with_item item.now rest)) ≡ with_all found.new (in_body rest)) }
 {
     match item {
         Item::Vars(_, declarators) => add_declarators(found, declarators),

@@ -25,7 +25,8 @@ abbrev mutual
   pub conversions : List ℕ → Option ℕ
   conversions [] = Some 0
   conversions (byte ∷ format) =
-      if byte == 0 then None else if byte == percent then conversions_after format else conversions format
+      if byte == 0 then None
+      else if byte == percent then conversions_after format else conversions format
 
   -- the same of what follows a `%`
   pub conversions_after : List ℕ → Option ℕ
@@ -37,7 +38,8 @@ abbrev mutual
 -- the text of an argument at its specifier: the number in decimal, with `-` where it is negative, or the one byte that
 -- it is modulo 256 (C11 7.21.6.1 p8)
 abbrev pub converted : ℕ → ℤ → List ℕ
-converted specifier value = if specifier == decimal_specifier then signed_decimal value else byte_of value ∷ []
+converted specifier value =
+    if specifier == decimal_specifier then signed_decimal value else byte_of value ∷ []
 
 -- the text of the first of some arguments
 abbrev pub first_converted : ℕ → List ℤ → List ℕ
@@ -49,7 +51,8 @@ abbrev mutual
   -- argument
   pub text : List ℕ → List ℤ → List ℕ
   text [] args = []
-  text (byte ∷ format) args = if byte == percent then text_after format args else byte ∷ text format args
+  text (byte ∷ format) args =
+      if byte == percent then text_after format args else byte ∷ text format args
 
   -- the same of what follows a `%`
   pub text_after : List ℕ → List ℤ → List ℕ

@@ -26,7 +26,8 @@ digits_of text = take_while is_ascii_digit (without_leading_sign text)
 
 -- what follows these digits
 abbrev pub after_digits : List ℕ → List ℕ
-after_digits text = drop (prefix_len is_ascii_digit (without_leading_sign text)) (without_leading_sign text)
+after_digits text =
+    drop (prefix_len is_ascii_digit (without_leading_sign text)) (without_leading_sign text)
 
 -- the number that the sign and the digits write
 abbrev pub number_of : List ℕ → ℤ

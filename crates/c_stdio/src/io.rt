@@ -51,7 +51,8 @@ impl<'a> TestIo<'a> {
     /// Writes a byte, if it is the next one expected (C11 7.21.7.8). Otherwise nothing is taken.
     pub fn put(&mut self, byte: u8) -> bool
         ensures expected { result ≡ is_expected (byte ∷ []) self.old.expected }
-        ensures state { self.new ≡ record self.old { expected = expected_after (byte ∷ []) self.old.expected } }
+        ensures state { self.new ≡
+            record self.old { expected = expected_after (byte ∷ []) self.old.expected } }
         ensures refused { OnFalse result (self.new ≡ self.old) }
     {
         match self.expected {
@@ -70,7 +71,8 @@ impl<'a> TestIo<'a> {
     #[tactic(auto, using(crate::proofs::Writing::agreeing_le))]
     pub(crate) fn put_all(&mut self, text: &[u8]) -> bool
         ensures expected { result ≡ is_expected text.now self.old.expected }
-        ensures state { self.new ≡ record self.old { expected = expected_after text.now self.old.expected } }
+        ensures state { self.new ≡
+            record self.old { expected = expected_after text.now self.old.expected } }
     {
         let count = agreeing(text, self.expected);
         self.expected = &self.expected[count..];

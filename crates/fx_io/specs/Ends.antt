@@ -18,7 +18,8 @@ ReadEnds held name cap before now NoMemory = Unit {0}
 -- the same of a read of what is left of a chosen file
 abbrev pub LeftEnds : Option (List ℕ) → ℕ → ℕ → ℕ → ReadEnd → Type 0
 LeftEnds left cap before now Fault = Rose before now
-LeftEnds left cap before now (TooLong n) = (n ≡ cap) × ((bytes : List ℕ) × IsLeft left bytes × (cap < length bytes))
+LeftEnds left cap before now (TooLong n) =
+    (n ≡ cap) × ((bytes : List ℕ) × IsLeft left bytes × (cap < length bytes))
 LeftEnds left cap before now NoMemory = Unit {0}
 
 -- P, if the read ended by a fault

@@ -23,7 +23,8 @@ place_after (Some at) n = Some (at.0, at.1 + n)
 -- the bytes behind a place, if there is such a file
 abbrev pub left_at : List (List ℕ × List ℕ) → Option (List ℕ × ℕ) → Option (List ℕ)
 left_at files None = None
-left_at files (Some at) = elim (file_named files at.0) [ None ↦ None | Some bytes ↦ Some (drop at.1 bytes) ]
+left_at files (Some at) =
+    elim (file_named files at.0) [ None ↦ None | Some bytes ↦ Some (drop at.1 bytes) ]
 
 -- the bytes behind a place, where the files held and the place are told
 abbrev pub left_of : Option (List (List ℕ × List ℕ)) → Option (List ℕ × ℕ) → Option (List ℕ)

@@ -29,7 +29,8 @@ shelf_of inside =
 -- the file is there, its name leads to its bytes, and no more of them were read than there are
 pub record IsPlace (files : List File) (place : Place) : Type 0 where
   pub within : place.file < length files
-  pub bytes : IfSome (slice_get files place.file) (λ file. file_named (map name_and_bytes files) (string_bytes file.0) ≡ Some file.1.items)
+  pub bytes : IfSome (slice_get files place.file)
+      (λ file. file_named (map name_and_bytes files) (string_bytes file.0) ≡ Some file.1.items)
   pub read : IfSome (slice_get files place.file) (λ file. place.read ≤ length file.1.items)
 
 -- a read may give a byte, and the chosen place is one of a file

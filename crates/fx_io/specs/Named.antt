@@ -15,4 +15,5 @@ name_and_bytes file = (string_bytes file.0, file.1.items)
 pub record IsFoundAt (files : List File) (name : List ℕ) (i : ℕ) : Type 0 where
   pub within : i < length files
   pub called : IfSome (slice_get files i) (λ file. string_bytes file.0 ≡ name)
-  pub bytes : IfSome (slice_get files i) (λ file. file_named (map name_and_bytes files) name ≡ Some file.1.items)
+  pub bytes : IfSome (slice_get files i)
+      (λ file. file_named (map name_and_bytes files) name ≡ Some file.1.items)

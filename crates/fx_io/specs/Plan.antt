@@ -23,7 +23,8 @@ after_call plan = record { failing = plan.failing; calls = one_more plan.calls; 
 
 -- after one call more, which failed
 abbrev pub after_failure : Plan → Plan
-after_failure plan = record { failing = plan.failing; calls = one_more plan.calls; faults = one_more plan.faults }
+after_failure plan =
+    record { failing = plan.failing; calls = one_more plan.calls; faults = one_more plan.faults }
 
 -- after one call more, which failed if it was to
 abbrev pub after_next : Plan → Plan

@@ -45,7 +45,8 @@ pub trait Files {
         ensures ok { OnOk result (IsTrue (chosen self.new)) }
         ensures place { OnOk result (IfSome (held self.old) (λ _. at self.new ≡ Some (name.now, 0))) }
         ensures failed { OnErr result (IsFalse (chosen self.new)) }
-        ensures cause { OnErr result (Rose (faults self.old) (faults self.new) ⊎ Lacks (held self.old) name.now) }
+        ensures cause { OnErr result (Rose (faults self.old) (faults self.new) ⊎
+            Lacks (held self.old) name.now) }
         ensures absent { Lacks (held self.old) name.now → IsErr result }
         ensures sure { sure self.old → sure self.new × OnErr result (Lacks (held self.old) name.now) };
 

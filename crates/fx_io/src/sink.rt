@@ -25,7 +25,8 @@ pub trait Sink {
         ensures faults { faults self.old ≤ faults self.new }
         ensures within { IfOk result (λ n. n ≤ length piece.now) }
         ensures some { IfOk result (λ n. 0 < length piece.now → 0 < n) }
-        ensures bytes { IfOk result (λ n. written self.new ≡ appended (written self.old) (take n piece.now)) }
+        ensures bytes { IfOk result (λ n. written self.new ≡
+            appended (written self.old) (take n piece.now)) }
         ensures failed { OnErr result (written self.new ≡ written self.old) }
         ensures cause { OnErr result (Rose (faults self.old) (faults self.new)) }
         ensures room { 0 < length piece.now → length piece.now ≤ room self.old → IsOkAnd result (λ n.

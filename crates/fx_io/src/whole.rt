@@ -93,7 +93,8 @@ pub fn write_whole<S: Sink>(sink: &mut S, bytes: &[u8]) -> Result<(), Failed>
     ensures failed { OnErr result ((n : ℕ) × (n < length bytes.now)
         × (S.written sink.new ≡ appended (S.written sink.old) (take n bytes.now))) }
     ensures cause { OnErr result (Rose (S.faults sink.old) (S.faults sink.new)) }
-    ensures room { length bytes.now ≤ S.room sink.old → IsOk result × (S.faults sink.new ≡ S.faults sink.old)
+    ensures room { length bytes.now ≤ S.room sink.old → IsOk result ×
+        (S.faults sink.new ≡ S.faults sink.old)
         × (S.room sink.new + length bytes.now ≡ S.room sink.old) }
 {
     let mut from = 0;

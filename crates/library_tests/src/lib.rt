@@ -1,6 +1,9 @@
-//! Tests of the crates of tests and suites: `printf` and `scanf` over a test, and the reading of a suite.
+//! Tests of the crates of arithmetic, tests and suites: operators, `printf` and `scanf` over a test, and the reading of a
+//! suite.
 #![tactic(auto)]
 
+#[cfg(test)]
+mod arithmetic;
 #[cfg(test)]
 mod printing;
 #[cfg(test)]

@@ -15,45 +15,46 @@ fn writing(alloc: Global, output: &[u8]) -> Result<Test, AllocError> {
     })
 }
 
+/// The format, its arguments, the output, what `printf` gives, and how many bytes are still expected then.
+const WRITTEN: [(&[u8], &[i64], &[u8], Option<i64>, usize); 33] = [
+    (b"", &[], b"", Some(0), 0),
+    (b"", &[], b"a", Some(0), 1),
+    (b"abc", &[], b"abc", Some(3), 0),
+    (b"abc", &[], b"abcd", Some(3), 1),
+    (b"abc", &[], b"ab", None, 0),
+    (b"abc", &[], b"xbc", None, 3),
+    (b"abc", &[], b"axc", None, 2),
+    (b"abc", &[], b"abx", None, 1),
+    (b"%d%c%%\n", &[-5, 65], b"-5A%\n", Some(5), 0),
+    (b"%d%c%%\n", &[-5, 65], b"-5A%\nB", Some(5), 1),
+    (b"%d%c%%\n", &[-5, 65], b"-5A%%\n", None, 2),
+    (b"%d%c%%\n", &[-5, 65], b"-5B%\n", None, 3),
+    (b"%d%c%%\n", &[-5, 65], b"-6A%\n", None, 4),
+    (b"%d%c%%\n", &[-5, 65], b"5A%\n", None, 4),
+    (b"%%", &[], b"%", Some(1), 0),
+    (b"%%", &[], b"%%", Some(1), 1),
+    (b"%%d", &[], b"%d", Some(2), 0),
+    (b"%%%%", &[], b"%%", Some(2), 0),
+    (b"%%%d", &[3], b"%3", Some(2), 0),
+    (b"%d", &[0], b"0", Some(1), 0),
+    (b"%d", &[-1], b"-1", Some(2), 0),
+    (b"%d", &[2_147_483_647], b"2147483647", Some(10), 0),
+    (b"%d", &[-2_147_483_648], b"-2147483648", Some(11), 0),
+    (b"%d", &[123], b"124", None, 1),
+    (b"%d %d", &[1, 2], b"1 2", Some(3), 0),
+    (b"%d %d", &[2, 1], b"1 2", None, 3),
+    (b"%c", &[0], b"\x00", Some(1), 0),
+    (b"%c", &[255], b"\xff", Some(1), 0),
+    (b"%c", &[256], b"\x00", Some(1), 0),
+    (b"%c", &[-1], b"\xff", Some(1), 0),
+    (b"%c", &[-256], b"\x00", Some(1), 0),
+    (b"%c%c", &[104, 105], b"hi", Some(2), 0),
+    (b"\xc3\xa9%d", &[7], b"\xc3\xa97", Some(3), 0),
+];
+
 #[test]
 fn formats_are_written(rt: HostRuntime) -> Result<(), Fail> {
-    // The format, its arguments, the output, what `printf` gives, and how many bytes are still expected then.
-    let rows: [(&[u8], &[i64], &[u8], Option<i64>, usize); 33] = [
-        (b"", &[], b"", Some(0), 0),
-        (b"", &[], b"a", Some(0), 1),
-        (b"abc", &[], b"abc", Some(3), 0),
-        (b"abc", &[], b"abcd", Some(3), 1),
-        (b"abc", &[], b"ab", None, 0),
-        (b"abc", &[], b"xbc", None, 3),
-        (b"abc", &[], b"axc", None, 2),
-        (b"abc", &[], b"abx", None, 1),
-        (b"%d%c%%\n", &[-5, 65], b"-5A%\n", Some(5), 0),
-        (b"%d%c%%\n", &[-5, 65], b"-5A%\nB", Some(5), 1),
-        (b"%d%c%%\n", &[-5, 65], b"-5A%%\n", None, 2),
-        (b"%d%c%%\n", &[-5, 65], b"-5B%\n", None, 3),
-        (b"%d%c%%\n", &[-5, 65], b"-6A%\n", None, 4),
-        (b"%d%c%%\n", &[-5, 65], b"5A%\n", None, 4),
-        (b"%%", &[], b"%", Some(1), 0),
-        (b"%%", &[], b"%%", Some(1), 1),
-        (b"%%d", &[], b"%d", Some(2), 0),
-        (b"%%%%", &[], b"%%", Some(2), 0),
-        (b"%%%d", &[3], b"%3", Some(2), 0),
-        (b"%d", &[0], b"0", Some(1), 0),
-        (b"%d", &[-1], b"-1", Some(2), 0),
-        (b"%d", &[2_147_483_647], b"2147483647", Some(10), 0),
-        (b"%d", &[-2_147_483_648], b"-2147483648", Some(11), 0),
-        (b"%d", &[123], b"124", None, 1),
-        (b"%d %d", &[1, 2], b"1 2", Some(3), 0),
-        (b"%d %d", &[2, 1], b"1 2", None, 3),
-        (b"%c", &[0], b"\x00", Some(1), 0),
-        (b"%c", &[255], b"\xff", Some(1), 0),
-        (b"%c", &[256], b"\x00", Some(1), 0),
-        (b"%c", &[-1], b"\xff", Some(1), 0),
-        (b"%c", &[-256], b"\x00", Some(1), 0),
-        (b"%c%c", &[104, 105], b"hi", Some(2), 0),
-        (b"\xc3\xa9%d", &[7], b"\xc3\xa97", Some(3), 0),
-    ];
-    for (row, (format, args, output, count, left)) in rows.iter().enumerate() {
+    for (row, (format, args, output, count, left)) in WRITTEN.iter().enumerate() {
         let test = writing(rt.alloc(), output)?;
         let mut io = TestIo::new(&test);
         assert!(rt; conversion_count(format) == Some(args.len()), "row {row}");

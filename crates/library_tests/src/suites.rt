@@ -8,62 +8,63 @@ use test_suite::SuiteFault::{
 };
 use test_suite::{SuiteFault, read_suite};
 
+/// The limit, and for each test its name, `:`, its input, `=`, its output, `;` and its status.
+const READ: [(&str, u64, &[u8]); 16] = [
+    (r#"{"tests":[]}"#, 100_000, b""),
+    (" {\n\t\"tests\" : [ ] } \r\n", 100_000, b""),
+    (r#"{"limit":1,"tests":[]}"#, 1, b""),
+    (r#"{"tests":[],"limit":10000000}"#, 10_000_000, b""),
+    (r#"{"\u0074ests":[]}"#, 100_000, b""),
+    (r#"{"tests":[{"output":"0"}]}"#, 100_000, b":=0;\x00"),
+    (
+        r#"{"tests":[{"name":"a","input":"1 2","output":"3\n","status":7},{"output":"","status":255}]}"#,
+        100_000,
+        b"a:1 2=3\n;\x07:=;\xff",
+    ),
+    (
+        r#"{"tests":[{"status":0,"output":"","input":"","name":""}]}"#,
+        100_000,
+        b":=;\x00",
+    ),
+    (
+        r#"{"tests":[{"input":"\u0000","output":"\u00ff\n\\\"\/\b\f\r\t"}]}"#,
+        100_000,
+        b":\x00=\xc3\xbf\n\\\"/\x08\x0c\r\t;\x00",
+    ),
+    (
+        "{\"tests\":[{\"input\":\"\u{e9}\",\"output\":\"\\ud83d\\ude00\"}]}",
+        100_000,
+        b":\xc3\xa9=\xf0\x9f\x98\x80;\x00",
+    ),
+    // Other keys are ignored, whatever they hold.
+    (
+        r#"{"x":{"limit":0},"tests":[{"y":null,"output":"0","z":[1e3],"Name":3}],"Limit":0}"#,
+        100_000,
+        b":=0;\x00",
+    ),
+    // Of repeated keys the last one counts.
+    (
+        r#"{"tests":[{"input":null,"output":3,"status":-1,"input":"i","output":"a","output":"b","status":2}]}"#,
+        100_000,
+        b":i=b;\x02",
+    ),
+    (
+        r#"{"tests":3,"limit":0,"tests":[{"output":"a"}],"limit":5,"tests":[]}"#,
+        5,
+        b"",
+    ),
+    (
+        r#"{"tests":[],"x":-0,"y":1.0,"z":18446744073709551616}"#,
+        100_000,
+        b"",
+    ),
+    (r#"{"tests":[{"output":"=:;"}]}"#, 100_000, b":==:;;\x00"),
+    (r#"{"limit":9999999,"tests":[]}"#, 9_999_999, b""),
+];
+
 #[test]
 fn suites_are_read(rt: HostRuntime) -> Result<(), Fail> {
-    // The limit, and for each test its name, `:`, its input, `=`, its output, `;` and its status.
-    let rows: [(&str, u64, &[u8]); 16] = [
-        (r#"{"tests":[]}"#, 100_000, b""),
-        (" {\n\t\"tests\" : [ ] } \r\n", 100_000, b""),
-        (r#"{"limit":1,"tests":[]}"#, 1, b""),
-        (r#"{"tests":[],"limit":10000000}"#, 10_000_000, b""),
-        (r#"{"\u0074ests":[]}"#, 100_000, b""),
-        (r#"{"tests":[{"output":"0"}]}"#, 100_000, b":=0;\x00"),
-        (
-            r#"{"tests":[{"name":"a","input":"1 2","output":"3\n","status":7},{"output":"","status":255}]}"#,
-            100_000,
-            b"a:1 2=3\n;\x07:=;\xff",
-        ),
-        (
-            r#"{"tests":[{"status":0,"output":"","input":"","name":""}]}"#,
-            100_000,
-            b":=;\x00",
-        ),
-        (
-            r#"{"tests":[{"input":"\u0000","output":"\u00ff\n\\\"\/\b\f\r\t"}]}"#,
-            100_000,
-            b":\x00=\xc3\xbf\n\\\"/\x08\x0c\r\t;\x00",
-        ),
-        (
-            "{\"tests\":[{\"input\":\"\u{e9}\",\"output\":\"\\ud83d\\ude00\"}]}",
-            100_000,
-            b":\xc3\xa9=\xf0\x9f\x98\x80;\x00",
-        ),
-        // Other keys are ignored, whatever they hold.
-        (
-            r#"{"x":{"limit":0},"tests":[{"y":null,"output":"0","z":[1e3],"Name":3}],"Limit":0}"#,
-            100_000,
-            b":=0;\x00",
-        ),
-        // Of repeated keys the last one counts.
-        (
-            r#"{"tests":[{"input":null,"output":3,"status":-1,"input":"i","output":"a","output":"b","status":2}]}"#,
-            100_000,
-            b":i=b;\x02",
-        ),
-        (
-            r#"{"tests":3,"limit":0,"tests":[{"output":"a"}],"limit":5,"tests":[]}"#,
-            5,
-            b"",
-        ),
-        (
-            r#"{"tests":[],"x":-0,"y":1.0,"z":18446744073709551616}"#,
-            100_000,
-            b"",
-        ),
-        (r#"{"tests":[{"output":"=:;"}]}"#, 100_000, b":==:;;\x00"),
-        (r#"{"limit":9999999,"tests":[]}"#, 9_999_999, b""),
-    ];
-    for (text, limit, tests) in rows {
+    for (text, limit, tests) in READ {
         let suite = read_suite(rt.alloc(), text.as_bytes())?;
         assert_eq!(rt; suite.limit, limit, "{text}");
         let mut found = Vec::new(rt.alloc());

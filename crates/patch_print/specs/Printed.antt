@@ -60,8 +60,11 @@ printed (index word slot e s) = word ++ codes "[" ++ printed e ++ codes "]"
 printed (call word args s) = []
 printed (unary op e s) = sign op ++ operand e (printed e)
 printed (cast ty e s) = parenthesized (type_name ty) ++ codes " " ++ operand e (printed e)
-printed (binary op l r s) = operand l (printed l) ++ codes " " ++ symbol op ++ codes " " ++ operand r (printed r)
-printed (choice t a b s) = operand t (printed t) ++ codes " ? " ++ operand a (printed a) ++ codes " : " ++ operand b (printed b)
+printed (binary op l r s) =
+    operand l (printed l) ++ codes " " ++ symbol op ++ codes " " ++ operand r (printed r)
+printed (choice t a b s) =
+    operand t (printed t) ++ codes " ? " ++ operand a (printed a) ++ codes " : " ++
+    operand b (printed b)
 printed (assign op place e s) = []
 printed (bump before up place s) = []
 printed (comma l r s) = operand l (printed l) ++ codes ", " ++ operand r (printed r)

@@ -78,7 +78,8 @@ fn put_expr(text: &mut Vec<u8>, e: &Expr) -> Result<(), NoMemory>
 /// Appends the text of an operand: a constant, a name or an element bare, all else in parentheses.
 #[cycle(put)]
 fn put_operand(text: &mut Vec<u8>, e: &Expr) -> Result<(), NoMemory>
-    ensures { OnOk result (text.new.items ≡ text.old.items ++ operand (tree e.now) (printed (tree e.now))) }
+    ensures { OnOk result (text.new.items ≡ text.old.items ++
+        operand (tree e.now) (printed (tree e.now))) }
 {
     match &e.node {
         ExprNode::Const { .. } | ExprNode::Name { .. } => put_expr(text, e),

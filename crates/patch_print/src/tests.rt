@@ -71,30 +71,32 @@ fn expect(rt: &impl Abort, alloc: Global, built: Built, text: &str) -> Result<()
     Ok(())
 }
 
+/// Each operator between two operands, with its text.
+const INFIX: [(BinOp, &str); 18] = [
+    (BinOp::Mul, "a * b"),
+    (BinOp::Div, "a / b"),
+    (BinOp::Rem, "a % b"),
+    (BinOp::Add, "a + b"),
+    (BinOp::Sub, "a - b"),
+    (BinOp::Shl, "a << b"),
+    (BinOp::Shr, "a >> b"),
+    (BinOp::Lt, "a < b"),
+    (BinOp::Le, "a <= b"),
+    (BinOp::Gt, "a > b"),
+    (BinOp::Ge, "a >= b"),
+    (BinOp::Eq, "a == b"),
+    (BinOp::Ne, "a != b"),
+    (BinOp::BitAnd, "a & b"),
+    (BinOp::BitXor, "a ^ b"),
+    (BinOp::BitOr, "a | b"),
+    (BinOp::Both, "a && b"),
+    (BinOp::Either, "a || b"),
+];
+
 #[test]
 fn spells_operators(rt: HostRuntime) -> Result<(), Fail> {
     let alloc = rt.alloc();
-    let infix = [
-        (BinOp::Mul, "a * b"),
-        (BinOp::Div, "a / b"),
-        (BinOp::Rem, "a % b"),
-        (BinOp::Add, "a + b"),
-        (BinOp::Sub, "a - b"),
-        (BinOp::Shl, "a << b"),
-        (BinOp::Shr, "a >> b"),
-        (BinOp::Lt, "a < b"),
-        (BinOp::Le, "a <= b"),
-        (BinOp::Gt, "a > b"),
-        (BinOp::Ge, "a >= b"),
-        (BinOp::Eq, "a == b"),
-        (BinOp::Ne, "a != b"),
-        (BinOp::BitAnd, "a & b"),
-        (BinOp::BitXor, "a ^ b"),
-        (BinOp::BitOr, "a | b"),
-        (BinOp::Both, "a && b"),
-        (BinOp::Either, "a || b"),
-    ];
-    for (op, text) in infix {
+    for (op, text) in INFIX {
         expect(
             &rt,
             alloc,
@@ -162,7 +164,12 @@ fn puts_operands_in_parentheses(rt: HostRuntime) -> Result<(), Fail> {
         binary(alloc, BinOp::Sub, b(alloc), sum(alloc)),
         "b - (a + 1)",
     )?;
-    expect(&rt, alloc, unary(alloc, UnOp::Flip, pair(alloc)), "!(a, 1)")?;
+    expect(&rt, alloc, unary(alloc, UnOp::Flip, pair(alloc)), "!(a, 1)")
+}
+
+#[test]
+fn puts_nested_parts_in_parentheses(rt: HostRuntime) -> Result<(), Fail> {
+    let alloc = rt.alloc();
     expect(
         &rt,
         alloc,

@@ -16,5 +16,6 @@ no_patch = codes "none\n"
 -- a line that says so, or the source with the patch of that rank
 abbrev pub IsText : Job → Answer → List ℕ → Type 0
 IsText job answer.Sound text = text ≡ nothing_to_repair
-IsText job (answer.Patch rank) text = option_map (patched_text job) (slice_get (patches job) rank) ≡ Some text
+IsText job (answer.Patch rank) text =
+    option_map (patched_text job) (slice_get (patches job) rank) ≡ Some text
 IsText job answer.Nothing text = text ≡ no_patch

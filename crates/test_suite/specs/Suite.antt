@@ -36,7 +36,8 @@ max_status = 255
 -- ---- steps
 
 -- a step, and then another that depends on what it gave, if it refused nothing
-abbrev pub and_then : {A B : Type 0} → Result A SuiteFault → (A → Result B SuiteFault) → Result B SuiteFault
+abbrev pub and_then :
+    {A B : Type 0} → Result A SuiteFault → (A → Result B SuiteFault) → Result B SuiteFault
 and_then (Ok a) next = next a
 and_then (Err fault) next = Err fault
 
@@ -64,7 +65,8 @@ number_at word value = option_and_then as_u64 (option_and_then as_number (get wo
 -- a text that is not too long
 abbrev pub fitting : ℕ → Key → Option (List ℕ) → Result (List ℕ) SuiteFault
 fitting number key None = Err (BadField number key)
-fitting number key (Some text) = if nat_lt max_text (length text) then Err (TooLongText number key) else Ok text
+fitting number key (Some text) =
+    if nat_lt max_text (length text) then Err (TooLongText number key) else Ok text
 
 -- the text at a key that must be there
 abbrev pub required : ℕ → Key → Data → Result (List ℕ) SuiteFault
@@ -77,15 +79,19 @@ optional number key test = if has (word_of key) test then required number key te
 -- a status
 abbrev pub valid_status : ℕ → Option ℕ → Result ℕ SuiteFault
 valid_status number None = Err (BadField number Status)
-valid_status number (Some status) = if nat_lt max_status status then Err (BadField number Status) else Ok status
+valid_status number (Some status) =
+    if nat_lt max_status status then Err (BadField number Status) else Ok status
 
 -- the status at its key, or 0 where that is absent
 abbrev pub status_in : ℕ → Data → Result ℕ SuiteFault
-status_in number test = if has (word_of Status) test then valid_status number (number_at (word_of Status) test) else Ok 0
+status_in number test =
+    if has (word_of Status) test then valid_status number (number_at (word_of Status) test)
+    else Ok 0
 
 -- the test of these four
 abbrev pub test_of : List ℕ → List ℕ → List ℕ → ℕ → Test
-test_of name input output status = record { name = name; input = input; output = output; status = status }
+test_of name input output status =
+    record { name = name; input = input; output = output; status = status }
 
 -- the fields of a test, each held to its rule in this order
 abbrev pub fields_in : ℕ → Data → Result Test SuiteFault
@@ -105,7 +111,8 @@ test_in number test = if is_none (as_object test) then Err (NotATest number) els
 abbrev pub tests_from : ℕ → Items → Result (List Test) SuiteFault
 tests_from number no_items = Ok []
 tests_from number (item test rest) =
-    and_then (test_in number test) (λ first. mapped (λ tests. first ∷ tests) (tests_from (number + 1) rest))
+    and_then (test_in number test)
+    (λ first. mapped (λ tests. first ∷ tests) (tests_from (number + 1) rest))
 
 -- a limit
 abbrev pub valid_limit : Option ℕ → Result ℕ SuiteFault
@@ -114,12 +121,15 @@ valid_limit (Some limit) = if limit == 0 || nat_lt max_limit limit then Err BadL
 
 -- the limit of a suite
 abbrev pub limit_in : Data → Result ℕ SuiteFault
-limit_in suite = if has (codes "limit") suite then valid_limit (number_at (codes "limit") suite) else Ok default_limit
+limit_in suite =
+    if has (codes "limit") suite then valid_limit (number_at (codes "limit") suite)
+    else Ok default_limit
 
 -- not too many tests
 abbrev pub few : Option Items → Result Items SuiteFault
 few None = Err NoTests
-few (Some tests) = if nat_lt max_tests (items_len tests) then Err (TooMany (items_len tests)) else Ok tests
+few (Some tests) =
+    if nat_lt max_tests (items_len tests) then Err (TooMany (items_len tests)) else Ok tests
 
 -- the list of tests of a suite: it is an object whose `tests` are a list
 abbrev pub list_in : Data → Result Items SuiteFault

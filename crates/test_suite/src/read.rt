@@ -45,7 +45,8 @@ pub struct Suite {
 pub fn read_suite(alloc: Global, bytes: &[u8]) -> Result<Suite, SuiteFault>
     ensures suite { IfOk result (λ suite.
         stated bytes.now ≡ Ok (record { tests = suite.tests.items; limit = suite.limit })) }
-    ensures refused { IfErr result (λ fault. fault ≢ SuiteFault.NoMemory → stated bytes.now ≡ Err fault) }
+    ensures refused { IfErr result (λ fault. fault ≢ SuiteFault.NoMemory →
+        stated bytes.now ≡ Err fault) }
 {
     let suite = read_document(alloc, bytes)?;
     read_members(alloc, &suite)

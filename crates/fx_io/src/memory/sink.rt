@@ -88,7 +88,8 @@ impl Sink for MemSink {
         ensures fails { IsErr result ↔ Refuses self.old piece.now }
         ensures plan { MatchResult result (λ _. self.new.plan ≡ after_call self.old.plan)
             (λ _. self.new.plan ≡ after_failure self.old.plan) }
-        ensures bytes { MatchResult result (λ n. self.new.written ≡ self.old.written ++ take n piece.now)
+        ensures bytes { MatchResult result
+            (λ n. self.new.written ≡ self.old.written ++ take n piece.now)
             (λ _. self.new.written ≡ self.old.written) }
         ensures left { MatchResult result (λ n. self.new.room + n ≡ self.old.room)
             (λ _. self.new.room ≡ self.old.room) }
