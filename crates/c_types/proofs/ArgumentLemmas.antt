@@ -1,13 +1,14 @@
 -- The arguments of a call in a list and in a tree.
 use Rattle.std.proofs.Common.{◌≡◌, ℕ, suc, List, [], ◌∷◌, length, drop, refl, ap, Option, Some}
 use Rattle.std.specs.List.{slice_get}
-use Rattle.std.specs.Prelude.{◌&&◌}
+use Rattle.std.specs.Prelude.{◌&&◌, unwrap_or}
 use Rattle.c_tree.specs.declared.place.Span.{Span}
 use Rattle.c_tree.specs.declared.expr.Arg.{Arg}
 use Rattle.c_tree.specs.declared.expr.Arg.TheVariants.{Value', Format, Address'}
 use Rattle.c_tree.specs.Views.{args_of, with_arg}
 use Rattle.c_types.specs.declared.fault.FaultKind.TheVariants.{WrongCount}
-use Rattle.c_types.specs.Arguments.{args_count, no_format, miscounts, formatted_faults}
+use Rattle.c_types.specs.Arguments.{args_count, converted, no_format, miscounts, formatted_faults}
+use Rattle.c_types.specs.Formats.{conversions}
 use Rattle.c_types.specs.Least.{fault_if}
 
 -- there are as many arguments as the list has
@@ -26,3 +27,11 @@ formatted_first read [] text t s is = cc
 formatted_first read (x ∷ args) text t s is =
     let here : x ≡ Format text t = cc in
     ap (λ z. formatted_faults read (with_arg z (args_of args)) s) here
+
+-- the conversions of a format that is the first argument
+pub converted_first : (args : List Arg) (text : List ℕ) (t : Span) → slice_get args 0 ≡ Some (Format text t)
+    → converted (args_of args) ≡ unwrap_or (conversions text) 0
+converted_first [] text t is = cc
+converted_first (x ∷ args) text t is =
+    let here : x ≡ Format text t = cc in
+    ap (λ z. converted (with_arg z (args_of args))) here

@@ -14,7 +14,7 @@ use Rattle.c_types.specs.declared.fault.Fault.{Fault}
 use Rattle.c_types.specs.declared.scope.Declaration.{Declaration}
 use Rattle.c_types.specs.declared.scope.Entity.{Entity}
 use Rattle.c_types.specs.declared.kinds.Wanted.{Wanted}
-use Rattle.c_types.specs.Arguments.{wanted, value_faults, call_faults}
+use Rattle.c_types.specs.Arguments.{converted, wanted, value_faults, call_faults}
 use Rattle.c_types.specs.Expressions.{faults, args_faults}
 use Rattle.c_types.specs.Kinds.{kind}
 use Rattle.c_types.specs.Least.{least, earlier}
@@ -40,7 +40,7 @@ span_of_tree e = span_of_node e.node e.span
 
 module _ (ks : List Declaration) where
   -- one more argument was looked at
-  pub args_more : (m : Option Entity) (args : List Arg) (i : ℕ) (x : Arg) (all before after now : Option Fault) → i < length args → x ≡ get_or args i x
+  pub args_more : (m : ℕ → Wanted) (args : List Arg) (i : ℕ) (x : Arg) (all before after now : Option Fault) → i < length args → x ≡ get_or args i x
       → least (args_faults ks m i (with_arg x (args_of (drop (suc i) args)))) ≡ earlier now (least (args_faults ks m (suc i) (args_of (drop (suc i) args))))
       → after ≡ earlier before now
       → all ≡ earlier before (least (args_faults ks m i (args_of (drop i args))))
@@ -52,28 +52,28 @@ module _ (ks : List Declaration) where
 
   -- the faults of a call are those of its name and its arguments
   pub faults_call : (e : Expr) (word : List ℕ) (args : Vec Arg Global) → e.node ≡ Call word args
-      → least (faults ks (tree e)) ≡ earlier (least (call_faults (denoted ks word) (args_of args.items) e.span)) (least (args_faults ks (denoted ks word) 0 (args_of args.items)))
+      → least (faults ks (tree e)) ≡ earlier (least (call_faults (denoted ks word) (args_of args.items) e.span)) (least (args_faults ks (wanted (denoted ks word) (converted (args_of args.items))) 0 (args_of args.items)))
   faults_call e word args is =
       ap (λ (n : ExprNode). least (faults ks (node_tree n e.span))) is ∙ ap (λ t. least (faults ks t)) (node-Call word args e.span)
-      ∙ least_append (call_faults (denoted ks word) (args_of args.items) e.span) (args_faults ks (denoted ks word) 0 (args_of args.items))
+      ∙ least_append (call_faults (denoted ks word) (args_of args.items) e.span) (args_faults ks (wanted (denoted ks word) (converted (args_of args.items))) 0 (args_of args.items))
 
   -- the faults of an expression as an argument, and those of the arguments behind it
-  pub value_step : (m : Option Entity) (i : ℕ) (rest : Args) (e : Expr) (w : Wanted) (own inner r : Option Fault) → w ≡ wanted m i
+  pub value_step : (m : ℕ → Wanted) (i : ℕ) (rest : Args) (e : Expr) (w : Wanted) (own inner r : Option Fault) → w ≡ m i
       → own ≡ least (value_faults w (kind ks (tree e)) e.span) → inner ≡ least (faults ks (tree e)) → r ≡ earlier own inner
       → least (args_faults ks m i (with_arg (Value e) rest)) ≡ earlier r (least (args_faults ks m (suc i) rest))
   value_step m i rest e w own inner r is p q joined_is =
-      least_append (value_faults (wanted m i) (kind ks (tree e)) (span_of (tree e)) ++ faults ks (tree e)) (args_faults ks m (suc i) rest)
+      least_append (value_faults (m i) (kind ks (tree e)) (span_of (tree e)) ++ faults ks (tree e)) (args_faults ks m (suc i) rest)
       ∙ ap (λ x. earlier x (least (args_faults ks m (suc i) rest)))
-      (sym (joined (value_faults (wanted m i) (kind ks (tree e)) (span_of (tree e))) (faults ks (tree e)) own inner r joined_is
-      (p ∙ ap (λ v. least (value_faults v (kind ks (tree e)) e.span)) is ∙ ap (λ s. least (value_faults (wanted m i) (kind ks (tree e)) s)) (sym (span_of_tree e))) q))
+      (sym (joined (value_faults (m i) (kind ks (tree e)) (span_of (tree e))) (faults ks (tree e)) own inner r joined_is
+      (p ∙ ap (λ v. least (value_faults v (kind ks (tree e)) e.span)) is ∙ ap (λ s. least (value_faults (m i) (kind ks (tree e)) s)) (sym (span_of_tree e))) q))
 
   -- the same, with what each of the two parts was found by
   pub call_joined : (e : Expr) (word : List ℕ) (args : Vec Arg Global) → e.node ≡ Call word args → (m : Option Entity) (xs ys : List Arg) (a b r : Option Fault)
       → m ≡ denoted ks word → xs ≡ args.items → ys ≡ args.items
-      → a ≡ least (call_faults m (args_of xs) e.span) → b ≡ least (args_faults ks m 0 (args_of ys)) → r ≡ earlier a b → r ≡ least (faults ks (tree e))
+      → a ≡ least (call_faults m (args_of xs) e.span) → b ≡ least (args_faults ks (wanted m (converted (args_of ys))) 0 (args_of ys)) → r ≡ earlier a b → r ≡ least (faults ks (tree e))
   call_joined e word args is m xs ys a b r entity xs_is ys_is a_is b_is r_is =
       let by_name : a ≡ least (call_faults (denoted ks word) (args_of args.items) e.span) =
       a_is ∙ ap (λ (n : Option Entity). least (call_faults n (args_of xs) e.span)) entity ∙ ap (λ (zs : List Arg). least (call_faults (denoted ks word) (args_of zs) e.span)) xs_is in
-      let by_args : b ≡ least (args_faults ks (denoted ks word) 0 (args_of args.items)) =
-      b_is ∙ ap (λ (n : Option Entity). least (args_faults ks n 0 (args_of ys))) entity ∙ ap (λ (zs : List Arg). least (args_faults ks (denoted ks word) 0 (args_of zs))) ys_is in
+      let by_args : b ≡ least (args_faults ks (wanted (denoted ks word) (converted (args_of args.items))) 0 (args_of args.items)) =
+      b_is ∙ ap (λ (n : Option Entity). least (args_faults ks (wanted n (converted (args_of ys))) 0 (args_of ys))) entity ∙ ap (λ (zs : List Arg). least (args_faults ks (wanted (denoted ks word) (converted (args_of zs))) 0 (args_of zs))) ys_is in
       r_is ∙ ap (λ (x : Option Fault). earlier x b) by_name ∙ ap (earlier (least (call_faults (denoted ks word) (args_of args.items) e.span))) by_args ∙ sym (faults_call e word args is)

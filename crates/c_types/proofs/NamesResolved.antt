@@ -1,6 +1,6 @@
 -- In a program without a fault each name has the slot of a variable once it is resolved.
-use Rattle.std.proofs.Common.{◌≡◌, ◌≢◌, ℕ, zero, suc, ◌+◌, ◌<◌, Bool, true, false, not, nat_eq, if◌then◌else◌, List, [], ◌∷◌, ◌++◌, map, length, Option, Some, None, is_none, slice_get, refl, sym, ap, ap₂, ◌∙◌, subst, arith}
-use Rattle.std.specs.Prelude.{⊤}
+use Rattle.std.proofs.Common.{◌≡◌, ◌≢◌, ℕ, zero, suc, ◌+◌, ◌<◌, ◌≤◌, Bool, true, false, not, nat_eq, if◌then◌else◌, List, [], ◌∷◌, ◌++◌, map, length, Option, Some, None, is_none, slice_get, refl, sym, ap, ap₂, ◌∙◌, subst, arith}
+use Rattle.std.specs.Prelude.{⊤, ◌&&◌, nat_le, codes, unwrap_or}
 use Rattle.std.specs.List.{All, flat_map}
 use Rattle.std.specs.Option.{option_or}
 use Rattle.std.specs.Str.{bytes_eq}
@@ -24,10 +24,11 @@ use Rattle.c_types.specs.declared.scope.Entity.TheVariants.{Variable as Variable
 use Rattle.c_types.specs.declared.scope.ParamType.{ParamType}
 use Rattle.c_types.specs.declared.scope.Storage.{Storage}
 use Rattle.c_types.specs.declared.scope.Storage.TheVariants.{Static, Automatic}
-use Rattle.c_types.specs.Arguments.{number_faults, array_faults, is_int, stores_int, wanted_by, wanted, value_faults, format_faults, operand_faults, address_faults, args_count, call_faults}
+use Rattle.c_types.specs.Arguments.{number_faults, array_faults, is_int, stores_int, converted, wanted_by, wanted, value_faults, format_faults, operand_faults, address_faults, args_count, no_format, miscounts, formatted_faults, call_faults}
 use Rattle.c_types.specs.Constants.{constant_faults}
 use Rattle.c_types.specs.Evidence.{IsChecked}
 use Rattle.c_types.specs.Expressions.{void_faults, index_faults, place_faults, as_number, as_void, faults, args_faults}
+use Rattle.c_types.specs.Formats.{conversions, scan_conversions}
 use Rattle.c_types.specs.Kinds.{kind, named}
 use Rattle.c_types.specs.Least.{fault, fault_if}
 use Rattle.c_types.specs.Library.{library}
@@ -207,32 +208,117 @@ by_count params n s h i lt =
     let long : length params ≡ n = grind (arith, nat_tests) in
     by_param params i (omega arith)
 
-call_wants : (m : Option Entity) (x : Args) (s : Span) → call_faults m x s ≡ [] → (i : ℕ) → i < args_count x → wanted m i ≢ Anything
-call_wants None x s h i lt = no_such Unknown s h
-call_wants (Some (VariableEntity slot ty array)) x s h i lt = no_such WrongKind s h
-call_wants (Some (FunctionEntity ret params body defined)) x s h i lt =
+not_zero : (k : ℕ) → nat_eq (suc k) 0 ≡ false
+not_zero k = grind (arith, nat_tests)
+
+-- a string literal is no argument but the first of `printf` and `scanf`
+printf_literal : (n k : ℕ) (text : List ℕ) (s : Span) → format_faults (wanted (Some Printf) n (suc k)) text s ≢ []
+printf_literal n k text s = by_tests (nat_eq (suc k) 0) (nat_le (suc k) n) (not_zero k)
+  where
+    by_tests : (a b : Bool) → a ≡ false → format_faults (if a then PrintfFormat else (if b then Scalar else Anything)) text s ≢ []
+    by_tests true b is h = absurd (cc)
+    by_tests false true is h = no_such BadFormat s h
+    by_tests false false is h = no_such BadFormat s h
+
+scanf_literal : (n k : ℕ) (text : List ℕ) (s : Span) → format_faults (wanted (Some Scanf) n (suc k)) text s ≢ []
+scanf_literal n k text s = by_tests (nat_eq (suc k) 0) (nat_eq (suc k) 1) (not_zero k)
+  where
+    by_tests : (a b : Bool) → a ≡ false → format_faults (if a then ScanfFormat else (if b then IntAddress else Anything)) text s ≢ []
+    by_tests true b is h = absurd (cc)
+    by_tests false true is h = no_such BadFormat s h
+    by_tests false false is h = no_such BadFormat s h
+
+no_literal : (ds : List Declaration) (want : ℕ → Wanted) → ((k : ℕ) (text : List ℕ) (s : Span) → format_faults (want (suc k)) text s ≢ [])
+    → (k : ℕ) (x : Args) → args_faults ds want (suc k) x ≡ [] → no_format x ≡ true
+no_literal ds want none k no_args h = refl
+no_literal ds want none k (value e x) h =
+    no_literal ds want none (suc k) x (none_right (value_faults (want (suc k)) (kind ds e) (span_of e) ++ faults ds e) _ h)
+no_literal ds want none k (format text s x) h = absurd (none k text s (none_left _ _ h))
+no_literal ds want none k (address e x) h =
+    no_literal ds want none (suc k) x (none_right (address_faults (want (suc k)) ds e ++ faults ds e) _ h)
+
+both_true : (a b : Bool) → (a && b) ≡ false → a ≡ true → b ≡ false
+both_true true b h is = h
+both_true false b h is = absurd (cc)
+
+-- a good format that has as many conversions as arguments follow
+counted : (o : Option ℕ) (n : ℕ) → is_none o ≡ false → miscounts o n ≡ false → o ≡ Some n
+counted None n good same = absurd (cc)
+counted (Some c) n good same =
+    let eq : nat_eq c n ≡ true = not_true (nat_eq c n) same in
+    let is : c ≡ n = grind (arith, nat_tests) in
+    ap Some is
+
+after_format : (o : Option ℕ) (x : Args) (t s : Span) → fault_if (is_none o) BadFormat t ≡ [] → fault_if (no_format x && miscounts o (args_count x)) WrongCount s ≡ []
+    → no_format x ≡ true → o ≡ Some (args_count x)
+after_format o x t s good same plain =
+    counted o (args_count x) (no_fault (is_none o) BadFormat t good)
+    (both_true (no_format x) (miscounts o (args_count x)) (no_fault (no_format x && miscounts o (args_count x)) WrongCount s same) plain)
+
+wants_converted : (n i : ℕ) → i ≤ n → wanted (Some Printf) n i ≢ Anything
+wants_converted n zero le h = cc
+wants_converted n (suc k) le h =
+    let within : nat_le (suc k) n ≡ true = grind (arith, nat_tests) in
+    by_tests (nat_eq (suc k) 0) (nat_le (suc k) n) (not_zero k) within h
+  where
+    by_tests : (a b : Bool) → a ≡ false → b ≡ true → (if a then PrintfFormat else (if b then Scalar else Anything)) ≢ Anything
+    by_tests true b p q same = absurd (cc)
+    by_tests false true p q same = cc
+    by_tests false false p q same = absurd (cc)
+
+printf_wants : (ds : List Declaration) (x : Args) (s : Span) → formatted_faults conversions x s ≡ [] → args_faults ds (wanted (Some Printf) (converted x)) 0 x ≡ []
+    → (i : ℕ) → i < args_count x → wanted (Some Printf) (converted x) i ≢ Anything
+printf_wants ds no_args s h g i lt = absurd (omega arith)
+printf_wants ds (value e x) s h g i lt = no_such BadFormat (span_of e) (none_left _ _ (none_left _ _ g))
+printf_wants ds (address e x) s h g i lt = no_such WrongKind (span_of e) (none_left _ _ (none_left _ _ (none_left _ _ g)))
+printf_wants ds (format text t x) s h g i lt =
+    let n = unwrap_or (conversions text) 0 in
+    let plain = no_literal ds (wanted (Some Printf) n) (printf_literal n) 0 x (none_right (format_faults PrintfFormat text t) _ g) in
+    let is : n ≡ args_count x = ap (λ (o : Option ℕ). unwrap_or o 0) (after_format (conversions text) x t s (none_left _ _ g) h plain) in
+    wants_converted n i (omega (arith, is, lt))
+
+wants_scanned : (n i : ℕ) → i ≤ 1 → wanted (Some Scanf) n i ≢ Anything
+wants_scanned n zero le h = cc
+wants_scanned n (suc zero) le h = cc
+wants_scanned n (suc (suc k)) le h = absurd (omega (arith, le))
+
+scan_one : (text : List ℕ) (n : ℕ) → scan_conversions text ≡ Some n → n ≡ 1
+scan_one text n = by_test (bytes_eq text (codes "%d"))
+  where
+    by_test : (b : Bool) → (if b then Some 1 else None) ≡ Some n → n ≡ 1
+    by_test true h = sym (some_same h)
+    by_test false h = absurd (cc)
+
+scanf_wants : (ds : List Declaration) (x : Args) (s : Span) → formatted_faults scan_conversions x s ≡ [] → args_faults ds (wanted (Some Scanf) (converted x)) 0 x ≡ []
+    → (i : ℕ) → i < args_count x → wanted (Some Scanf) (converted x) i ≢ Anything
+scanf_wants ds no_args s h g i lt = absurd (omega arith)
+scanf_wants ds (value e x) s h g i lt = no_such BadFormat (span_of e) (none_left _ _ (none_left _ _ g))
+scanf_wants ds (address e x) s h g i lt = no_such WrongKind (span_of e) (none_left _ _ (none_left _ _ (none_left _ _ g)))
+scanf_wants ds (format text t x) s h g i lt =
+    let n = unwrap_or (conversions text) 0 in
+    let plain = no_literal ds (wanted (Some Scanf) n) (scanf_literal n) 0 x (none_right (format_faults ScanfFormat text t) _ g) in
+    let one : args_count x ≡ 1 = scan_one text (args_count x) (after_format (scan_conversions text) x t s (none_left _ _ g) h plain) in
+    wants_scanned n i (omega (arith, one, lt))
+
+-- a call without a fault wants something of each of its arguments
+call_wants : (ds : List Declaration) (m : Option Entity) (x : Args) (s : Span) → call_faults m x s ≡ [] → args_faults ds (wanted m (converted x)) 0 x ≡ []
+    → (i : ℕ) → i < args_count x → wanted m (converted x) i ≢ Anything
+call_wants ds None x s h g i lt = no_such Unknown s h
+call_wants ds (Some (VariableEntity slot ty array)) x s h g i lt = no_such WrongKind s h
+call_wants ds (Some (FunctionEntity ret params body defined)) x s h g i lt =
     by_count params (args_count x) s (none_right (fault_if (not defined) Unknown s) _ h) i lt
-call_wants (Some (Library ret params)) x s h i lt = by_count params (args_count x) s h i lt
-call_wants (Some Printf) x s h i lt = of_number (nat_eq i 0)
-  where
-    of_number : (b : Bool) → (if b then PrintfFormat else Scalar) ≢ Anything
-    of_number true k = cc
-    of_number false k = cc
-call_wants (Some Scanf) x s h i lt = of_numbers (nat_eq i 0) (nat_eq i 1)
-  where
-    of_numbers : (a b : Bool) → (if a then ScanfFormat else (if b then IntAddress else Scalar)) ≢ Anything
-    of_numbers true b k = cc
-    of_numbers false true k = cc
-    of_numbers false false k = cc
+call_wants ds (Some (Library ret params)) x s h g i lt = by_count params (args_count x) s h i lt
+call_wants ds (Some Printf) x s h g i lt = printf_wants ds x s h g i lt
+call_wants ds (Some Scanf) x s h g i lt = scanf_wants ds x s h g i lt
 
-from_wanted : (m : Option Entity) (i : ℕ) → wanted m i ≢ Anything → wanted m (0 + i) ≢ Anything
-from_wanted m i h = let same : i ≡ 0 + i = omega arith in subst (λ (k : ℕ). wanted m k ≢ Anything) same h
+from_wanted : (w : ℕ → Wanted) (i : ℕ) → w i ≢ Anything → w (0 + i) ≢ Anything
+from_wanted w i h = let same : i ≡ 0 + i = omega arith in subst (λ (k : ℕ). w k ≢ Anything) same h
 
-first_wanted : (m : Option Entity) (n : ℕ) → wanted m (n + 0) ≢ Anything → wanted m n ≢ Anything
-first_wanted m n h = let same : n + 0 ≡ n = omega arith in subst (λ (k : ℕ). wanted m k ≢ Anything) same h
+first_wanted : (w : ℕ → Wanted) (n : ℕ) → w (n + 0) ≢ Anything → w n ≢ Anything
+first_wanted w n h = let same : n + 0 ≡ n = omega arith in subst (λ (k : ℕ). w k ≢ Anything) same h
 
-next_wanted : (m : Option Entity) (n i : ℕ) → wanted m (n + suc i) ≢ Anything → wanted m (suc n + i) ≢ Anything
-next_wanted m n i h = let same : n + suc i ≡ suc n + i = omega arith in subst (λ (k : ℕ). wanted m k ≢ Anything) same h
+next_wanted : (w : ℕ → Wanted) (n i : ℕ) → w (n + suc i) ≢ Anything → w (suc n + i) ≢ Anything
+next_wanted w n i h = let same : n + suc i ≡ suc n + i = omega arith in subst (λ (k : ℕ). w k ≢ Anything) same h
 
 count-kept : (ds : List Declaration) (x : Args) → args_count (resolved_args ds x) ≡ args_count x
 count-kept ds no_args = refl
@@ -350,9 +436,12 @@ module _ (ds : List Declaration) where
             let inner = number_parts e (none_right (index_faults (denoted ds word) s) _ h) in
             All-cons IsResolved _ _ (use-resolved word array.0 array.1 true true s.from own array.2 (λ k. refl)) (tree-resolved e inner.0 inner.1)
         tree-resolved (call word x s) v h =
-            args-resolved (denoted ds word) 0 x
-            (λ i lt. from_wanted (denoted ds word) i (call_wants (denoted ds word) (resolved_args ds x) s (none_left _ _ h) i (subst (λ (k : ℕ). i < k) (sym (count-kept ds x)) lt)))
-            (none_right (call_faults (denoted ds word) (resolved_args ds x) s) _ h)
+            let y = resolved_args ds x in
+            let want = wanted (denoted ds word) (converted y) in
+            let inner : args_faults ds want 0 y ≡ [] = none_right (call_faults (denoted ds word) y s) _ h in
+            args-resolved want 0 x
+            (λ i lt. from_wanted want i (call_wants ds (denoted ds word) y s (none_left _ _ h) inner i (subst (λ (k : ℕ). i < k) (sym (count-kept ds x)) lt)))
+            inner
         tree-resolved (unary op e s) v h = let inner = number_parts e h in tree-resolved e inner.0 inner.1
         tree-resolved (cast ty e s) v h = let inner = number_parts e h in tree-resolved e inner.0 inner.1
         tree-resolved (binary op l r s) v h =
@@ -378,24 +467,24 @@ module _ (ds : List Declaration) where
         tree-resolved hole v h = All-nil IsResolved
         tree-resolved (hole_after e) v h = let inner = number_parts e h in tree-resolved e inner.0 inner.1
 
-        args-resolved : (m : Option Entity) (n : ℕ) (x : Args) → ((i : ℕ) → i < args_count x → wanted m (n + i) ≢ Anything)
+        args-resolved : (m : ℕ → Wanted) (n : ℕ) (x : Args) → ((i : ℕ) → i < args_count x → m (n + i) ≢ Anything)
             → args_faults ds m n (resolved_args ds x) ≡ [] → All IsResolved (args_uses ds own (resolved_args ds x))
         args-resolved m n no_args some h = All-nil IsResolved
         args-resolved m n (value e x) some h =
             let e' = resolved_tree ds e in
-            let first = none_left (value_faults (wanted m n) (kind ds e') (span_of e') ++ faults ds e') _ h in
-            let inner = none_right (value_faults (wanted m n) (kind ds e') (span_of e')) _ first in
+            let first = none_left (value_faults (m n) (kind ds e') (span_of e') ++ faults ds e') _ h in
+            let inner = none_right (value_faults (m n) (kind ds e') (span_of e')) _ first in
             All-append IsResolved _ _
-            (tree-resolved e (value_variable (wanted m n) (first_wanted m n (some 0 (omega arith))) e (none_left _ _ first) inner) inner)
-            (args-resolved m (suc n) x (λ i lt. next_wanted m n i (some (suc i) (omega arith))) (none_right (value_faults (wanted m n) (kind ds e') (span_of e') ++ faults ds e') _ h))
+            (tree-resolved e (value_variable (m n) (first_wanted m n (some 0 (omega arith))) e (none_left _ _ first) inner) inner)
+            (args-resolved m (suc n) x (λ i lt. next_wanted m n i (some (suc i) (omega arith))) (none_right (value_faults (m n) (kind ds e') (span_of e') ++ faults ds e') _ h))
         args-resolved m n (format text s x) some h =
-            args-resolved m (suc n) x (λ i lt. next_wanted m n i (some (suc i) (omega arith))) (none_right (format_faults (wanted m n) text s) _ h)
+            args-resolved m (suc n) x (λ i lt. next_wanted m n i (some (suc i) (omega arith))) (none_right (format_faults (m n) text s) _ h)
         args-resolved m n (address e x) some h =
             let e' = resolved_tree ds e in
-            let first = none_left (address_faults (wanted m n) ds e' ++ faults ds e') _ h in
+            let first = none_left (address_faults (m n) ds e' ++ faults ds e') _ h in
             All-append IsResolved _ _
-            (tree-resolved e (address_variable (wanted m n) e (none_left _ _ first)) (none_right (address_faults (wanted m n) ds e') _ first))
-            (args-resolved m (suc n) x (λ i lt. next_wanted m n i (some (suc i) (omega arith))) (none_right (address_faults (wanted m n) ds e' ++ faults ds e') _ h))
+            (tree-resolved e (address_variable (m n) e (none_left _ _ first)) (none_right (address_faults (m n) ds e') _ first))
+            (args-resolved m (suc n) x (λ i lt. next_wanted m n i (some (suc i) (omega arith))) (none_right (address_faults (m n) ds e' ++ faults ds e') _ h))
 
     number-resolved : (own : Option (List ℕ)) (e : Tree) → as_number ds (resolved_tree ds e) ++ faults ds (resolved_tree ds e) ≡ [] → All IsResolved (tree_uses ds own (resolved_tree ds e))
     number-resolved own e h = let inner = number_parts e h in tree-resolved own e inner.0 inner.1

@@ -26,7 +26,7 @@ use Rattle.c_types.specs.declared.scope.Entity.{Entity}
 use Rattle.c_types.specs.declared.scope.Entity.TheVariants as entity
 use Rattle.c_types.specs.declared.scope.Storage.{Storage}
 use Rattle.c_types.specs.declared.scope.Storage.TheVariants.{Static, Automatic}
-use Rattle.c_types.specs.Arguments.{number_faults, array_faults, value_faults, format_faults, operand_faults, address_faults, formatted_faults, call_faults, wanted}
+use Rattle.c_types.specs.Arguments.{number_faults, array_faults, value_faults, format_faults, operand_faults, address_faults, formatted_faults, call_faults, converted, wanted}
 use Rattle.c_types.specs.Constants.{not_constant, not_constant_args, not_constant_all, not_constant_initial, constant_faults}
 use Rattle.c_types.specs.Expressions.{void_faults, index_faults, place_faults, as_number, as_void, faults, args_faults}
 use Rattle.c_types.specs.Formats.{conversions, scan_conversions}
@@ -258,7 +258,7 @@ module _ (end : ℕ) where
     tree_upto ds (order.index w x) le =
         both (index_upto _ _ (starts w le)) (both (number_part ds x (ends w le)) (tree_upto ds x (ends w le)))
     tree_upto ds (order.call {w = word} {x = args} {s = s} w x) le =
-        both (call_upto (denoted ds word) args s (starts w le)) (args_upto ds (denoted ds word) 0 x (ends w le))
+        both (call_upto (denoted ds word) args s (starts w le)) (args_upto ds (wanted (denoted ds word) (converted args)) 0 x (ends w le))
     tree_upto ds (order.unary w x) le = both (number_part ds x (ends w le)) (tree_upto ds x (ends w le))
     tree_upto ds (order.cast w x) le = both (number_part ds x (ends w le)) (tree_upto ds x (ends w le))
     tree_upto ds (order.binary {m = k} w x y) le =
@@ -277,17 +277,17 @@ module _ (end : ℕ) where
         let m : k ≤ end = omega (arith, tree_le y, w.ends, le) in
         both (both (void_part ds x m) (tree_upto ds x m)) (both (number_part ds y (ends w le)) (tree_upto ds y (ends w le)))
 
-    args_upto : {i j : ℕ} {x : Args} (ds : List Declaration) (m : Option Entity) (n : ℕ) → ArgsIn i j x → j ≤ end → Upto end (args_faults ds m n x)
+    args_upto : {i j : ℕ} {x : Args} (ds : List Declaration) (m : ℕ → Wanted) (n : ℕ) → ArgsIn i j x → j ≤ end → Upto end (args_faults ds m n x)
     args_upto ds m n (order.no_args h) le = none
     args_upto ds m n (order.value {m = l} {e = e} x rest) le =
         let k : l ≤ end = omega (arith, args_le rest, le) in
-        both (both (value_upto (wanted m n) (kind ds e) (span_of e) (begins x k)) (tree_upto ds x k)) (args_upto ds m (suc n) rest le)
+        both (both (value_upto (m n) (kind ds e) (span_of e) (begins x k)) (tree_upto ds x k)) (args_upto ds m (suc n) rest le)
     args_upto ds m n (order.format {m = l} {f = text} {s = s} w rest) le =
         let k : l ≤ end = omega (arith, args_le rest, le) in
-        both (format_upto (wanted m n) text s (starts w k)) (args_upto ds m (suc n) rest le)
+        both (format_upto (m n) text s (starts w k)) (args_upto ds m (suc n) rest le)
     args_upto ds m n (order.address {m = l} {e = e} x rest) le =
         let k : l ≤ end = omega (arith, args_le rest, le) in
-        both (both (address_upto (wanted m n) ds e (begins x k)) (tree_upto ds x k)) (args_upto ds m (suc n) rest le)
+        both (both (address_upto (m n) ds e (begins x k)) (tree_upto ds x k)) (args_upto ds m (suc n) rest le)
 
   mutual
     constant_upto : {i j : ℕ} {e : Tree} → TreeIn i j e → j ≤ end → Upto end (not_constant e)

@@ -19,7 +19,7 @@ use Rattle.c_types.specs.declared.scope.Entity.{Entity}
 use Rattle.c_types.specs.declared.scope.Entity.TheVariants.{Variable as VariableEntity, Function as FunctionEntity, Library, Printf, Scanf}
 use Rattle.c_types.specs.declared.scope.Storage.{Storage}
 use Rattle.c_types.specs.declared.scope.Storage.TheVariants.{Static, Automatic}
-use Rattle.c_types.specs.Arguments.{number_faults, is_place, is_int, stores_int, wanted, value_faults, format_faults, operand_faults, address_faults, args_count, no_format, miscounts, formatted_faults, call_faults}
+use Rattle.c_types.specs.Arguments.{number_faults, is_place, is_int, stores_int, converted, wanted, value_faults, format_faults, operand_faults, address_faults, args_count, no_format, miscounts, formatted_faults, call_faults}
 use Rattle.c_types.specs.Constants.{not_constant, not_constant_args, not_constant_all, not_constant_initial, constant_faults}
 use Rattle.c_types.specs.Expressions.{void_faults, index_faults, place_faults, as_number, as_void, faults, args_faults}
 use Rattle.c_types.specs.Formats.{conversions, scan_conversions}
@@ -89,13 +89,22 @@ index-same (Some (Library ret params)) s = refl
 index-same (Some Printf) s = refl
 index-same (Some Scanf) s = refl
 
-wanted-same : (m : Option Entity) (i : ℕ) → wanted (option_map plain m) i ≡ wanted m i
-wanted-same None i = refl
-wanted-same (Some (VariableEntity slot ty array)) i = refl
-wanted-same (Some (FunctionEntity ret params body defined)) i = refl
-wanted-same (Some (Library ret params)) i = refl
-wanted-same (Some Printf) i = refl
-wanted-same (Some Scanf) i = refl
+wanted-same : (m : Option Entity) (n i : ℕ) → wanted (option_map plain m) n i ≡ wanted m n i
+wanted-same None n i = refl
+wanted-same (Some (VariableEntity slot ty array)) n i = refl
+wanted-same (Some (FunctionEntity ret params body defined)) n i = refl
+wanted-same (Some (Library ret params)) n i = refl
+wanted-same (Some Printf) n i = refl
+wanted-same (Some Scanf) n i = refl
+
+converted-same : (x : Args) → converted (unresolved_args x) ≡ converted x
+converted-same no_args = refl
+converted-same (value e x) = refl
+converted-same (format text s x) = refl
+converted-same (address e x) = refl
+
+wants-same : (m : Option Entity) (x : Args) → wanted (option_map plain m) (converted (unresolved_args x)) ≡ wanted m (converted x)
+wants-same m x = λ i n. wanted-same m (converted-same x i) n i
 
 int-same : (m : Option Entity) (array : Bool) → is_int (option_map plain m) array ≡ is_int m array
 int-same None array = refl
@@ -240,8 +249,11 @@ module _ (ds : List Declaration) where
     faults-same (call word x s) =
         let own : call_faults (denoted (map slotless ds) word) (unresolved_args x) s ≡ call_faults (denoted ds word) x s =
         ap (λ m. call_faults m (unresolved_args x) s) (denoted-same ds word) ∙ call-same (denoted ds word) x s in
-        let all : args_faults (map slotless ds) (denoted (map slotless ds) word) 0 (unresolved_args x) ≡ args_faults ds (denoted ds word) 0 x =
-        ap (λ m. args_faults (map slotless ds) m 0 (unresolved_args x)) (denoted-same ds word) ∙ args-same (denoted ds word) 0 x in
+        let all : args_faults (map slotless ds) (wanted (denoted (map slotless ds) word) (converted (unresolved_args x))) 0 (unresolved_args x)
+        ≡ args_faults ds (wanted (denoted ds word) (converted x)) 0 x =
+        ap (λ m. args_faults (map slotless ds) (wanted m (converted (unresolved_args x))) 0 (unresolved_args x)) (denoted-same ds word)
+        ∙ ap (λ want. args_faults (map slotless ds) want 0 (unresolved_args x)) (wants-same (denoted ds word) x)
+        ∙ args-same (wanted (denoted ds word) (converted x)) 0 x in
         ap₂ (λ fs gs. fs ++ gs) own all
     faults-same (unary op e s) = ap₂ (λ fs gs. fs ++ gs) (as_number-same e) (faults-same e)
     faults-same (cast ty e s) = ap₂ (λ fs gs. fs ++ gs) (as_number-same e) (faults-same e)
@@ -257,16 +269,14 @@ module _ (ds : List Declaration) where
     faults-same hole = refl
     faults-same (hole_after e) = ap₂ (λ fs gs. fs ++ gs) (as_number-same e) (faults-same e)
 
-    args-same : (m : Option Entity) (n : ℕ) (x : Args) → args_faults (map slotless ds) (option_map plain m) n (unresolved_args x) ≡ args_faults ds m n x
+    args-same : (m : ℕ → Wanted) (n : ℕ) (x : Args) → args_faults (map slotless ds) m n (unresolved_args x) ≡ args_faults ds m n x
     args-same m n no_args = refl
     args-same m n (value e x) =
-        λ i. (value_faults (wanted-same m n i) (kind-same e i) (span-same e i) ++ faults-same e i) ++ args-same m (suc n) x i
+        λ i. (value_faults (m n) (kind-same e i) (span-same e i) ++ faults-same e i) ++ args-same m (suc n) x i
     args-same m n (format text s x) =
-        λ i. format_faults (wanted-same m n i) text s ++ args-same m (suc n) x i
+        λ i. format_faults (m n) text s ++ args-same m (suc n) x i
     args-same m n (address e x) =
-        let own : address_faults (wanted (option_map plain m) n) (map slotless ds) (unresolved_tree e) ≡ address_faults (wanted m n) ds e =
-        ap (λ w. address_faults w (map slotless ds) (unresolved_tree e)) (wanted-same m n) ∙ address-same (wanted m n) e in
-        λ i. (own i ++ faults-same e i) ++ args-same m (suc n) x i
+        λ i. (address-same (m n) e i ++ faults-same e i) ++ args-same m (suc n) x i
 
   numbers-same : (es : List Tree) → as_numbers (map slotless ds) (map unresolved_tree es) ≡ as_numbers ds es
   numbers-same [] = refl

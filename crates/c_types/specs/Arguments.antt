@@ -1,5 +1,5 @@
 -- The arguments of a call (C11 6.5.2.2).
-use Rattle.std.specs.Prelude.{ℕ, suc, Bool, true, false, not, ◌&&◌, nat_eq, List, [], ◌++◌, length, Option, Some, None, is_none, if◌then◌else◌}
+use Rattle.std.specs.Prelude.{ℕ, suc, Bool, true, false, not, ◌&&◌, nat_eq, nat_le, List, [], ◌++◌, length, Option, Some, None, is_none, unwrap_or, if◌then◌else◌}
 use Rattle.std.specs.List.{slice_get}
 use Rattle.c_tree.specs.declared.place.Span.{Span}
 use Rattle.c_tree.specs.declared.stmt.Ty.{Ty}
@@ -53,20 +53,29 @@ stores_int ds (name word slot s) = is_int (denoted ds word) false
 stores_int ds (index word slot e s) = is_int (denoted ds word) true
 stores_int ds e = false
 
+-- How many conversions the format of a call of `printf` has. They are its parameters. A bad format, and
+-- a call without one, has none.
+abbrev pub converted : Args → ℕ
+converted no_args = 0
+converted (value e rest) = 0
+converted (format text s rest) = unwrap_or (conversions text) 0
+converted (address e rest) = 0
+
 -- what a parameter wants as its argument; where there is no parameter, anything may stand
 abbrev pub wanted_by : Option ParamType → Wanted
 wanted_by None = Anything
 wanted_by (Some p) = if p.array then ArrayOf p.ty else Scalar
 
--- what a called name wants as its argument number i, counted from 0
-abbrev pub wanted : Option Entity → ℕ → Wanted
-wanted None i = Anything
-wanted (Some (Variable slot ty array)) i = Anything
-wanted (Some (Function ret params body defined)) i = wanted_by (slice_get params i)
-wanted (Some (Library ret params)) i = wanted_by (slice_get params i)
-wanted (Some Printf) i = if nat_eq i 0 then PrintfFormat else Scalar
-wanted (Some Scanf) i =
-    if nat_eq i 0 then ScanfFormat else (if nat_eq i 1 then IntAddress else Scalar)
+-- what a called name wants as its argument number i, counted from 0, where its format has n conversions
+abbrev pub wanted : Option Entity → ℕ → ℕ → Wanted
+wanted None n i = Anything
+wanted (Some (Variable slot ty array)) n i = Anything
+wanted (Some (Function ret params body defined)) n i = wanted_by (slice_get params i)
+wanted (Some (Library ret params)) n i = wanted_by (slice_get params i)
+wanted (Some Printf) n i =
+    if nat_eq i 0 then PrintfFormat else (if nat_le i n then Scalar else Anything)
+wanted (Some Scanf) n i =
+    if nat_eq i 0 then ScanfFormat else (if nat_eq i 1 then IntAddress else Anything)
 
 -- an expression as an argument
 abbrev pub value_faults : Wanted → Kind → Span → List Fault

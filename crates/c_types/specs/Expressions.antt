@@ -7,10 +7,11 @@ use Rattle.c_types.specs.declared.fault.Fault.{Fault}
 use Rattle.c_types.specs.declared.fault.FaultKind.TheVariants.{Unknown, WrongKind, NotPlace}
 use Rattle.c_types.specs.declared.kinds.Kind.{Kind}
 use Rattle.c_types.specs.declared.kinds.Kind.TheVariants.{Number, Array, Function as Callable, Void}
+use Rattle.c_types.specs.declared.kinds.Wanted.{Wanted}
 use Rattle.c_types.specs.declared.scope.Declaration.{Declaration}
 use Rattle.c_types.specs.declared.scope.Entity.{Entity}
 use Rattle.c_types.specs.declared.scope.Entity.TheVariants.{Variable, Function, Library, Printf, Scanf}
-use Rattle.c_types.specs.Arguments.{number_faults, wanted, value_faults, format_faults, address_faults, call_faults}
+use Rattle.c_types.specs.Arguments.{number_faults, converted, wanted, value_faults, format_faults, address_faults, call_faults}
 use Rattle.c_types.specs.Kinds.{kind, named}
 use Rattle.c_types.specs.Least.{fault, fault_if}
 use Rattle.c_types.specs.Scopes.{denoted}
@@ -55,7 +56,8 @@ module _ (ds : List Declaration) where
     faults (name word slot s) = fault_if (is_none (denoted ds word)) Unknown s
     faults (index word slot e s) = index_faults (denoted ds word) s ++ (as_number e ++ faults e)
     faults (call word args s) =
-        call_faults (denoted ds word) args s ++ args_faults (denoted ds word) 0 args
+        call_faults (denoted ds word) args s
+        ++ args_faults (wanted (denoted ds word) (converted args)) 0 args
     faults (unary op e s) = as_number e ++ faults e
     faults (cast ty e s) = as_number e ++ faults e
     faults (binary op l r s) = (as_number l ++ faults l) ++ (as_number r ++ faults r)
@@ -68,13 +70,13 @@ module _ (ds : List Declaration) where
     faults hole = []
     faults (hole_after e) = as_number e ++ faults e
 
-    -- the faults of the arguments of a call from number i on
-    pub args_faults : Option Entity → ℕ → Args → List Fault
-    args_faults called i no_args = []
-    args_faults called i (value e rest) =
-        (value_faults (wanted called i) (kind ds e) (span_of e) ++ faults e)
-        ++ args_faults called (suc i) rest
-    args_faults called i (format text s rest) =
-        format_faults (wanted called i) text s ++ args_faults called (suc i) rest
-    args_faults called i (address e rest) =
-        (address_faults (wanted called i) ds e ++ faults e) ++ args_faults called (suc i) rest
+    -- the faults of the arguments of a call from number i on, by what is wanted as each
+    pub args_faults : (ℕ → Wanted) → ℕ → Args → List Fault
+    args_faults want i no_args = []
+    args_faults want i (value e rest) =
+        (value_faults (want i) (kind ds e) (span_of e) ++ faults e)
+        ++ args_faults want (suc i) rest
+    args_faults want i (format text s rest) =
+        format_faults (want i) text s ++ args_faults want (suc i) rest
+    args_faults want i (address e rest) =
+        (address_faults (want i) ds e ++ faults e) ++ args_faults want (suc i) rest

@@ -18,7 +18,8 @@ ResolvingChangesSlots = (p : List Outer) → unresolved (resolved p) ≡ unresol
 
 -- so the spans stay in text order
 abbrev pub ResolvingKeepsOrder : Type 0
-ResolvingKeepsOrder = (from to : ℕ) (p : List Outer) → ProgramIn from to p → ProgramIn from to (resolved p)
+ResolvingKeepsOrder = (from to : ℕ) (p : List Outer) → ProgramIn from to p
+    → ProgramIn from to (resolved p)
 
 -- and without spans, slots and the spelling of constants the program is the same
 abbrev pub ResolvingKeepsBare : Type 0
@@ -34,11 +35,13 @@ ResolvingAgain = (p : List Outer) → resolved (resolved p) ≡ resolved p
 
 -- the faults of a program are the same whatever its slots
 abbrev pub FaultsIgnoreSlots : Type 0
-FaultsIgnoreSlots = (p : List Outer) (end : ℕ) → program_faults (unresolved p) end ≡ program_faults p end
+FaultsIgnoreSlots = (p : List Outer) (end : ℕ)
+    → program_faults (unresolved p) end ≡ program_faults p end
 
 -- so resolving it changes none
 abbrev pub ResolvingKeepsFaults : Type 0
-ResolvingKeepsFaults = (p : List Outer) (end : ℕ) → program_faults (resolved p) end ≡ program_faults p end
+ResolvingKeepsFaults = (p : List Outer) (end : ℕ)
+    → program_faults (resolved p) end ≡ program_faults p end
 
 -- a program in text order without a fault, resolved, is a checked one
 abbrev pub ResolvedIsChecked : Type 0

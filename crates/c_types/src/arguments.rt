@@ -3,7 +3,7 @@
 ghost use Rattle.std.specs.Prelude.{◌≡◌, ◌&&◌, ◌<◌, length, drop, option_copied};
 ghost use Rattle.c_tree.specs.Views.{tree, args_of};
 ghost use Rattle.c_types.specs.declared.fault.FaultKind.TheVariants.{WrongCount};
-ghost use Rattle.c_types.specs.Arguments.{number_faults, array_faults, is_place, is_int, stores_int, wanted_by, wanted, value_faults, format_faults, operand_faults, address_faults, args_count, no_format, miscounts, formatted_faults, call_faults};
+ghost use Rattle.c_types.specs.Arguments.{number_faults, array_faults, is_place, is_int, stores_int, converted, wanted_by, wanted, value_faults, format_faults, operand_faults, address_faults, args_count, no_format, miscounts, formatted_faults, call_faults};
 ghost use Rattle.c_types.specs.Formats.{conversions, scan_conversions};
 ghost use Rattle.c_types.specs.Least.{fault_if, least};
 ghost use Rattle.c_types.specs.Scopes.{in_scope};
@@ -76,6 +76,17 @@ fn stores_int(e: &Expr, scope: &Scope<'_>) -> bool
     }
 }
 
+/// How many conversions the format of a call of `printf` has: none where it is bad or missing.
+#[tactic(auto, using(crate::proofs::ArgumentLemmas::converted_first))]
+pub fn converted(args: &[Arg]) -> usize
+    ensures { result ≡ converted (args_of args.now) }
+{
+    match args.first() {
+        Some(Arg::Format(text, _)) => conversions(text.as_slice()).unwrap_or(0),
+        _ => 0,
+    }
+}
+
 /// What a parameter wants as its argument, if there is a parameter.
 fn wanted_by(param: Option<&ParamType>) -> Wanted
     ensures { result ≡ wanted_by (option_copied param.entry) }
@@ -92,9 +103,9 @@ fn wanted_by(param: Option<&ParamType>) -> Wanted
     }
 }
 
-/// What a called name wants as its argument of that number, counted from 0.
-pub fn wanted(entity: Option<&Entity>, i: usize) -> Wanted
-    ensures { result ≡ wanted (option_copied entity.entry) i }
+/// What a called name wants as its argument of that number, counted from 0, where its format has so many conversions.
+pub fn wanted(entity: Option<&Entity>, count: usize, i: usize) -> Wanted
+    ensures { result ≡ wanted (option_copied entity.entry) count i }
 {
     match entity {
         None => Wanted::Anything,
@@ -104,8 +115,10 @@ pub fn wanted(entity: Option<&Entity>, i: usize) -> Wanted
         Some(Entity::Printf) => {
             if i == 0 {
                 Wanted::PrintfFormat
-            } else {
+            } else if i <= count {
                 Wanted::Scalar
+            } else {
+                Wanted::Anything
             }
         }
         Some(Entity::Scanf) => {
@@ -114,7 +127,7 @@ pub fn wanted(entity: Option<&Entity>, i: usize) -> Wanted
             } else if i == 1 {
                 Wanted::IntAddress
             } else {
-                Wanted::Scalar
+                Wanted::Anything
             }
         }
     }
@@ -247,7 +260,8 @@ fn scanf_faults(args: &[Arg], span: Span) -> First
 /// The called name, with the number of its arguments.
 #[tactic(auto, using(crate::proofs::LeastLemmas::least_append, crate::proofs::ArgumentLemmas::count_args))]
 pub fn call_faults(entity: Option<&Entity>, args: &[Arg], span: Span) -> First
-    ensures { result.fault ≡ least (call_faults (option_copied entity.entry) (args_of args.now) span) }
+    ensures { result.fault
+        ≡ least (call_faults (option_copied entity.entry) (args_of args.now) span) }
 {
     match entity {
         None => First::of(FaultKind::Unknown, span),

@@ -50,7 +50,8 @@ pub fn check(alloc: Global, program: Program, end: u32) -> Result<Typed, TypeFau
     requires ordered { ProgramIn 0 end (tree_program program) }
     ensures accepted { OnOk result (program_faults (tree_program program) end ≡ []) }
     ensures resolved { IfOk result (λ typed. tree_of typed ≡ resolved (tree_program program)) }
-    ensures refused { IfErr result (λ fault. Causes fault (program_faults (tree_program program) end)) }
+    ensures refused { IfErr result (λ fault.
+        Causes fault (program_faults (tree_program program) end)) }
     ensures placed { IfErr result (λ fault. IfSome (place_of fault) (λ place. place ≤ end)) }
 {
     let found = program_faults(alloc, &program.externals, end)?;

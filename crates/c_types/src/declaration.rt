@@ -112,8 +112,10 @@ fn variable_faults(
     scope: &mut Scope<'_>,
 ) -> Result<First, NoMemory>
     ensures faults { IfOk result (λ r. r.fault
-        ≡ least (variable_faults storage (here scope.old) (outside scope.old) ty (variable d.now))) }
-    ensures here { OnOk result (here scope.new ≡ variable_declaration ty (variable d.now) ∷ here scope.old) }
+        ≡ least (variable_faults storage (here scope.old) (outside scope.old) ty
+        (variable d.now))) }
+    ensures here { OnOk result (here scope.new
+        ≡ variable_declaration ty (variable d.now) ∷ here scope.old) }
     ensures outside { outside scope.new ≡ outside scope.old }
 {
     let twice = First::of_if(scope.declares(&d.word), FaultKind::Twice, d.span);
@@ -133,7 +135,8 @@ pub fn variables_faults(
     scope: &mut Scope<'_>,
 ) -> Result<First, NoMemory>
     ensures faults { IfOk result (λ r. r.fault
-        ≡ least (variables_faults storage (here scope.old) (outside scope.old) ty (variables ds.now))) }
+        ≡ least (variables_faults storage (here scope.old) (outside scope.old) ty
+        (variables ds.now))) }
     ensures here { OnOk result (here scope.new ≡ declared ty (variables ds.now) (here scope.old)) }
     ensures outside { outside scope.new ≡ outside scope.old }
 {

@@ -1,16 +1,16 @@
 //! The faults of expressions (C11 6.5).
 
-ghost use Rattle.std.specs.Prelude.{◌≡◌, ◌++◌, ℕ, suc, Option, option_copied};
+ghost use Rattle.std.specs.Prelude.{◌≡◌, ◌++◌, ℕ, suc, option_copied};
 ghost use Rattle.c_tree.specs.Tree.{Args};
 ghost use Rattle.c_tree.specs.Views.{tree, args_of, with_arg};
-ghost use Rattle.c_types.specs.declared.scope.Entity.{Entity};
-ghost use Rattle.c_types.specs.Arguments.{wanted};
+ghost use Rattle.c_types.specs.declared.kinds.Wanted.{Wanted};
+ghost use Rattle.c_types.specs.Arguments.{converted, wanted};
 ghost use Rattle.c_types.specs.Expressions.{void_faults, index_faults, place_faults, as_number, as_void, faults, args_faults};
 ghost use Rattle.c_types.specs.Least.{least, earlier};
 ghost use Rattle.c_types.specs.Scopes.{in_scope};
 
 use crate::arguments::{
-    address_faults, call_faults, format_faults, number_faults, value_faults, wanted,
+    address_faults, call_faults, converted, format_faults, number_faults, value_faults, wanted,
 };
 use crate::fault::FaultKind;
 use crate::first::First;
@@ -110,11 +110,13 @@ fn faults(e: &Expr, scope: &Scope<'_>) -> First
 #[tactic(auto, using(crate::proofs::LeastLemmas::least_append))]
 fn args_faults(args: &[Arg], called: Option<&Entity>, scope: &Scope<'_>) -> First
     ensures { result.fault
-        ≡ least (args_faults (in_scope scope.now) (option_copied called.entry) 0 (args_of args.now)) }
+        ≡ least (args_faults (in_scope scope.now)
+        (wanted (option_copied called.entry) (converted (args_of args.now))) 0 (args_of args.now)) }
 {
+    let count = converted(args);
     let mut faults = First::none();
     for (i, arg) in args.iter().enumerate() {
-        faults = faults.and(arg_faults(arg, wanted(called, i), scope));
+        faults = faults.and(arg_faults(arg, wanted(called, count, i), scope));
     }
     faults
 }
@@ -123,9 +125,9 @@ fn args_faults(args: &[Arg], called: Option<&Entity>, scope: &Scope<'_>) -> Firs
 #[cycle(faults)]
 #[tactic(auto, using(crate::proofs::LeastLemmas::least_append, crate::proofs::ExpressionLemmas::span_of_node))]
 fn arg_faults(arg: &Arg, want: Wanted, scope: &Scope<'_>) -> First
-    ensures { (m : Option Entity) (i : ℕ) (rest : Args) → want ≡ wanted m i
-        → least (args_faults (in_scope scope.now) m i (with_arg arg.now rest))
-        ≡ earlier result.fault (least (args_faults (in_scope scope.now) m (suc i) rest)) }
+    ensures { (w : ℕ → Wanted) (i : ℕ) (rest : Args) → want ≡ w i
+        → least (args_faults (in_scope scope.now) w i (with_arg arg.now rest))
+        ≡ earlier result.fault (least (args_faults (in_scope scope.now) w (suc i) rest)) }
 {
     match arg {
         Arg::Value(e) => { value_faults(want, kind_of(e, scope), e.span).and(faults(e, scope)) }
@@ -138,7 +140,8 @@ fn arg_faults(arg: &Arg, want: Wanted, scope: &Scope<'_>) -> First
 #[tactic(auto, using(crate::proofs::LeastLemmas::least_append))]
 pub fn number(e: &Expr, scope: &Scope<'_>) -> First
     ensures { result.fault
-        ≡ least (as_number (in_scope scope.now) (tree e.now) ++ faults (in_scope scope.now) (tree e.now)) }
+        ≡ least (as_number (in_scope scope.now) (tree e.now)
+        ++ faults (in_scope scope.now) (tree e.now)) }
 {
     as_number(e, scope).and(faults(e, scope))
 }
@@ -147,7 +150,8 @@ pub fn number(e: &Expr, scope: &Scope<'_>) -> First
 #[tactic(auto, using(crate::proofs::LeastLemmas::least_append))]
 pub fn effect(e: &Expr, scope: &Scope<'_>) -> First
     ensures { result.fault
-        ≡ least (as_void (in_scope scope.now) (tree e.now) ++ faults (in_scope scope.now) (tree e.now)) }
+        ≡ least (as_void (in_scope scope.now) (tree e.now)
+        ++ faults (in_scope scope.now) (tree e.now)) }
 {
     as_void(e, scope).and(faults(e, scope))
 }

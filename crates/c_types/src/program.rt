@@ -170,7 +170,8 @@ fn definition_faults(
     scope: &mut Scope<'_>,
 ) -> Result<First, NoMemory>
     ensures { IfOk result (λ r. r.fault
-        ≡ least (definition_faults ret (here scope.old) (outside scope.old) (body_option body.now))) }
+        ≡ least (definition_faults ret (here scope.old) (outside scope.old)
+        (body_option body.now))) }
 {
     let enclosing = Enclosing {
         ret,

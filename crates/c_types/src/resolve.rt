@@ -47,7 +47,8 @@ fn resolve_expr(alloc: Global, e: &mut Expr, scope: &Scope<'_>)
 /// The kind of an expression with its parts, in which each name has its variable.
 #[cycle(resolve_expr)]
 fn resolved_node(alloc: Global, node: ExprNode, scope: &Scope<'_>) -> ExprNode
-    ensures { (s : Span) → node_tree result s ≡ resolved_tree (in_scope scope.now) (node_tree node s) }
+    ensures { (s : Span)
+        → node_tree result s ≡ resolved_tree (in_scope scope.now) (node_tree node s) }
 {
     match node {
         ExprNode::Const { value, word } => ExprNode::Const { value, word },
@@ -208,8 +209,10 @@ fn resolve_declarator(
     scope: &mut Scope<'_>,
 ) -> Result<(), NoMemory>
     ensures resolved { OnOk result (variable d.new
-        ≡ resolved_variable (here scope.old) (outside scope.old) ty (numbered_variable slot (variable d.old))) }
-    ensures here { OnOk result (here scope.new ≡ variable_declaration ty (numbered_variable slot (variable d.old)) ∷ here scope.old) }
+        ≡ resolved_variable (here scope.old) (outside scope.old) ty
+        (numbered_variable slot (variable d.old))) }
+    ensures here { OnOk result (here scope.new
+        ≡ variable_declaration ty (numbered_variable slot (variable d.old)) ∷ here scope.old) }
     ensures outside { outside scope.new ≡ outside scope.old }
 {
     d.slot = slot;
@@ -228,8 +231,10 @@ pub(crate) fn resolve_declarators(
     next: &mut u32,
 ) -> Result<(), NoMemory>
     ensures resolved { OnOk result (variables ds.new
-        ≡ resolved_variables (here scope.old) (outside scope.old) ty (numbered (slot_in storage) next.old (variables ds.old))) }
-    ensures here { OnOk result (here scope.new ≡ declared ty (numbered (slot_in storage) next.old (variables ds.old)) (here scope.old)) }
+        ≡ resolved_variables (here scope.old) (outside scope.old) ty
+        (numbered (slot_in storage) next.old (variables ds.old))) }
+    ensures here { OnOk result (here scope.new
+        ≡ declared ty (numbered (slot_in storage) next.old (variables ds.old)) (here scope.old)) }
     ensures outside { outside scope.new ≡ outside scope.old }
     ensures next { OnOk result (next.new ≡ next.old + length (variables ds.old)) }
 {
@@ -248,8 +253,10 @@ fn resolve_init(
     next: &mut u32,
 ) -> Result<(), NoMemory>
     requires { here scope.old ≡ [] }
-    ensures resolved { OnOk result (first init.new ≡ resolved_first (outside scope.old) (numbered_first next.old (first init.old))) }
-    ensures here { OnOk result (here scope.new ≡ first_declared (numbered_first next.old (first init.old))) }
+    ensures resolved { OnOk result (first init.new
+        ≡ resolved_first (outside scope.old) (numbered_first next.old (first init.old))) }
+    ensures here { OnOk result (here scope.new
+        ≡ first_declared (numbered_first next.old (first init.old))) }
     ensures outside { outside scope.new ≡ outside scope.old }
     ensures next { OnOk result (next.new ≡ next.old + first_count (first init.old)) }
 {
@@ -271,7 +278,8 @@ fn resolve_stmt(
     scope: &Scope<'_>,
     next: &mut u32,
 ) -> Result<(), NoMemory>
-    ensures resolved { OnOk result (code st.new ≡ resolved_code (in_scope scope.now) next.old (code st.old)) }
+    ensures resolved { OnOk result (code st.new
+        ≡ resolved_code (in_scope scope.now) next.old (code st.old)) }
     ensures next { OnOk result (next.new ≡ next.old + code_count (code st.old)) }
 {
     let node = mem::replace(&mut st.node, StmtNode::Empty);
@@ -287,7 +295,8 @@ fn resolved_kind(
     scope: &Scope<'_>,
     next: &mut u32,
 ) -> Result<StmtNode, NoMemory>
-    ensures resolved { IfOk result (λ r. (s : Span) → node_code r s ≡ resolved_code (in_scope scope.now) next.old (node_code node s)) }
+    ensures resolved { IfOk result (λ r. (s : Span)
+        → node_code r s ≡ resolved_code (in_scope scope.now) next.old (node_code node s)) }
     ensures next { OnOk result ((s : Span) → next.new ≡ next.old + code_count (node_code node s)) }
 {
     match node {
@@ -387,10 +396,12 @@ fn resolve_item(
     scope: &mut Scope<'_>,
     next: &mut u32,
 ) -> Result<(), NoMemory>
-    ensures resolved { OnOk result ((rest : Body) → with_item item.new (resolved_body (here scope.new) (outside scope.old) next.new rest)
+    ensures resolved { OnOk result ((rest : Body)
+        → with_item item.new (resolved_body (here scope.new) (outside scope.old) next.new rest)
         ≡ resolved_body (here scope.old) (outside scope.old) next.old (with_item item.old rest)) }
     ensures outside { outside scope.new ≡ outside scope.old }
-    ensures next { OnOk result ((rest : Body) → next.new + body_count rest ≡ next.old + body_count (with_item item.old rest)) }
+    ensures next { OnOk result ((rest : Body)
+        → next.new + body_count rest ≡ next.old + body_count (with_item item.old rest)) }
 {
     match item {
         Item::Vars(ty, ds) => resolve_declarators(alloc, ds, *ty, Storage::Automatic, scope, next),

@@ -23,7 +23,8 @@ fn resolve_params(
     next: &mut u32,
 ) -> Result<(), NoMemory>
     ensures resolved { OnOk result (params.new ≡ numbered_params next.old params.old) }
-    ensures here { OnOk result (here scope.new ≡ params_declared (numbered_params next.old params.old) (here scope.old)) }
+    ensures here { OnOk result (here scope.new
+        ≡ params_declared (numbered_params next.old params.old) (here scope.old)) }
     ensures outside { outside scope.new ≡ outside scope.old }
     ensures next { OnOk result (next.new ≡ next.old + length params.old) }
 {
@@ -41,7 +42,8 @@ fn resolve_param(
     scope: &mut Scope<'_>,
 ) -> Result<(), NoMemory>
     ensures resolved { OnOk result (param.new ≡ numbered_param number param.old) }
-    ensures here { OnOk result (here scope.new ≡ param_declaration (numbered_param number param.old) ∷ here scope.old) }
+    ensures here { OnOk result (here scope.new
+        ≡ param_declaration (numbered_param number param.old) ∷ here scope.old) }
     ensures outside { outside scope.new ≡ outside scope.old }
 {
     param.slot = Slot::Local(number);
@@ -67,7 +69,8 @@ fn resolve_definition(
 
 /// Resolves the function, whose own name is declared already.
 fn resolve_function(alloc: Global, f: &mut Func, around: &Scope<'_>) -> Result<(), NoMemory>
-    ensures { OnOk result (function f.new ≡ resolved_function (in_scope around.now) (function f.old)) }
+    ensures { OnOk result (function f.new
+        ≡ resolved_function (in_scope around.now) (function f.old)) }
 {
     let mut scope = Scope::inside(alloc, around);
     let mut next = 0;

@@ -66,7 +66,8 @@ fn void_option(e: &Option<Expr>, scope: &Scope<'_>) -> First
 /// The faults of the first clause of a `for`, in whose scope no name is declared yet.
 fn first_faults(alloc: Global, init: &Init, scope: &mut Scope<'_>) -> Result<First, NoMemory>
     requires { here scope.old ≡ [] }
-    ensures faults { IfOk result (λ r. r.fault ≡ least (first_faults (outside scope.old) (first init.now))) }
+    ensures faults { IfOk result (λ r. r.fault
+        ≡ least (first_faults (outside scope.old) (first init.now))) }
     ensures here { OnOk result (here scope.new ≡ first_declared (first init.now)) }
     ensures outside { outside scope.new ≡ outside scope.old }
 {

@@ -74,7 +74,8 @@ fn with_variable(
     place: u32,
     found: &mut Vec<Visible>,
 ) -> Result<(), NoMemory>
-    ensures { OnOk result (found.new.items ≡ with_variable place ty (variable d.now) found.old.items) }
+    ensures { OnOk result (found.new.items
+        ≡ with_variable place ty (variable d.now) found.old.items) }
 {
     if place < d.span.to {
         return Ok(());
@@ -100,7 +101,8 @@ fn with_variables(
     place: u32,
     found: &mut Vec<Visible>,
 ) -> Result<(), NoMemory>
-    ensures { OnOk result (found.new.items ≡ with_variables place ty (variables ds.now) found.old.items) }
+    ensures { OnOk result (found.new.items
+        ≡ with_variables place ty (variables ds.now) found.old.items) }
 {
     for d in ds {
         with_variable(alloc, d, ty, place, found)?;
@@ -218,7 +220,8 @@ fn add_item(
     place: u32,
     found: &mut Vec<Visible>,
 ) -> Result<(), NoMemory>
-    ensures { OnOk result ((rest : Body) → with_body place rest found.new.items ≡ with_body place (with_item item.now rest) found.old.items) }
+    ensures { OnOk result ((rest : Body) → with_body place rest found.new.items
+        ≡ with_body place (with_item item.now rest) found.old.items) }
 {
     match item {
         Item::Vars(ty, ds) => with_variables(alloc, ds, *ty, place, found),
@@ -233,7 +236,8 @@ fn with_definition(
     place: u32,
     found: &mut Vec<Visible>,
 ) -> Result<(), NoMemory>
-    ensures { OnOk result (found.new.items ≡ with_definition place (body_option body.now) found.old.items) }
+    ensures { OnOk result (found.new.items
+        ≡ with_definition place (body_option body.now) found.old.items) }
 {
     match body {
         None => Ok(()),
@@ -248,7 +252,8 @@ fn with_external(
     place: u32,
     found: &mut Vec<Visible>,
 ) -> Result<(), NoMemory>
-    ensures { OnOk result (found.new.items ≡ with_outer place (outer external.now) found.old.items) }
+    ensures { OnOk result (found.new.items
+        ≡ with_outer place (outer external.now) found.old.items) }
 {
     match external {
         External::Vars(ty, ds) => with_variables(alloc, ds, *ty, place, found),

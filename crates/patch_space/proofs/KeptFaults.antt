@@ -22,7 +22,7 @@ use Rattle.c_types.specs.declared.scope.Entity.{Entity}
 use Rattle.c_types.specs.declared.scope.Entity.TheVariants.{Variable as VariableEntity, Function as FunctionEntity, Library, Printf, Scanf}
 use Rattle.c_types.specs.declared.scope.Storage.{Storage}
 use Rattle.c_types.specs.declared.scope.Storage.TheVariants.{Static, Automatic}
-use Rattle.c_types.specs.Arguments.{number_faults, is_place, stores_int, wanted, value_faults, format_faults, operand_faults, address_faults, args_count, no_format, miscounts, formatted_faults, call_faults}
+use Rattle.c_types.specs.Arguments.{number_faults, is_place, stores_int, converted, wanted, value_faults, format_faults, operand_faults, address_faults, args_count, no_format, miscounts, formatted_faults, call_faults}
 use Rattle.c_types.specs.Constants.{constant_faults}
 use Rattle.c_types.specs.Expressions.{void_faults, index_faults, place_faults, as_number, as_void, faults, args_faults}
 use Rattle.c_types.specs.Formats.{conversions, scan_conversions}
@@ -68,6 +68,12 @@ module _ (l : Loc) (r : Rewrite) (keeps : Keeps r) where
   formatted-kept read (format text t x) s =
       ap₂ (λ b n. fault_if (b && miscounts (read text) n) WrongCount s) (format-kept x) (count-kept x)
   formatted-kept read (address e x) s = refl
+
+  converted-kept : (x : Args) → converted (to_args l r x) ≡ converted x
+  converted-kept no_args = refl
+  converted-kept (value e x) = refl
+  converted-kept (format text s x) = refl
+  converted-kept (address e x) = refl
 
   call-kept : (m : Option Entity) (x : Args) (s : Span) → call_faults m (to_args l r x) s ≡ call_faults m x s
   call-kept None x s = refl
@@ -187,7 +193,8 @@ module _ (l : Loc) (r : Rewrite) (keeps : Keeps r) where
       faults-kept (constant n word s) = refl
       faults-kept (name word slot s) = refl
       faults-kept (index word slot e s) = λ i. index_faults (denoted ds word) s ++ (number-kept e i ++ faults-kept e i)
-      faults-kept (call word x s) = ap₂ (λ fs gs. fs ++ gs) (call-kept (denoted ds word) x s) (args-kept (denoted ds word) 0 x)
+      faults-kept (call word x s) =
+          λ i. call-kept (denoted ds word) x s i ++ args-kept (wanted (denoted ds word) (converted-kept x i)) 0 x i
       faults-kept (unary op e s) = ap₂ (λ fs gs. fs ++ gs) (number-kept e) (faults-kept e)
       faults-kept (cast ty e s) = ap₂ (λ fs gs. fs ++ gs) (number-kept e) (faults-kept e)
       faults-kept (binary op a b s) = λ i. (number-kept a i ++ faults-kept a i) ++ (number-kept b i ++ faults-kept b i)
@@ -202,13 +209,13 @@ module _ (l : Loc) (r : Rewrite) (keeps : Keeps r) where
       faults-kept hole = refl
       faults-kept (hole_after e) = ap₂ (λ fs gs. fs ++ gs) (number-kept e) (faults-kept e)
 
-      args-kept : (m : Option Entity) (n : ℕ) (x : Args) → args_faults ds m n (to_args l r x) ≡ args_faults ds m n x
+      args-kept : (m : ℕ → Wanted) (n : ℕ) (x : Args) → args_faults ds m n (to_args l r x) ≡ args_faults ds m n x
       args-kept m n no_args = refl
       args-kept m n (value e x) =
-          λ i. (value_faults (wanted m n) (kind-kept e i) (span-kept e i) ++ faults-kept e i) ++ args-kept m (suc n) x i
-      args-kept m n (format text s x) = ap (λ fs. format_faults (wanted m n) text s ++ fs) (args-kept m (suc n) x)
+          λ i. (value_faults (m n) (kind-kept e i) (span-kept e i) ++ faults-kept e i) ++ args-kept m (suc n) x i
+      args-kept m n (format text s x) = ap (λ fs. format_faults (m n) text s ++ fs) (args-kept m (suc n) x)
       args-kept m n (address e x) =
-          λ i. (address-kept (wanted m n) e i ++ faults-kept e i) ++ args-kept m (suc n) x i
+          λ i. (address-kept (m n) e i ++ faults-kept e i) ++ args-kept m (suc n) x i
 
     faults_at : (at : LocKind) (e : Tree) → faults ds (at_tree l r at e (to_tree l r e)) ≡ faults ds e
     faults_at at e = part-kept at e (faults-kept e)

@@ -8,4 +8,5 @@ use Rattle.patch_space.specs.declared.patch.Patch.{Patch}
 
 -- what a patch makes of a checked program is a checked program
 abbrev pub PatchedIsChecked : Type 0
-PatchedIsChecked = (p : List Outer) (ls : List Loc) (patch : Patch) → IsChecked p → IsChecked (applied p ls patch)
+PatchedIsChecked =
+    (p : List Outer) (ls : List Loc) (patch : Patch) → IsChecked p → IsChecked (applied p ls patch)

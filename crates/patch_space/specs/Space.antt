@@ -35,7 +35,8 @@ patch_of cost n edit = record { cost = cost; loc = n; edit = edit }
 abbrev pub patches_from : List Outer → ℕ → ℕ → List Loc → List Patch
 patches_from program cost n [] = []
 patches_from program cost n (l ∷ ls) =
-    map (patch_of cost n) (edits_there cost l.kind (part_at l program)) ++ patches_from program cost (n + 1) ls
+    map (patch_of cost n) (edits_there cost l.kind (part_at l program)) ++
+    patches_from program cost (n + 1) ls
 
 -- all patches of a program, by rank: those that cost less first
 abbrev pub patches : List Outer → List Patch

@@ -34,7 +34,8 @@ fn changed_at(
     location: Loc,
     edit: &Edit,
 ) -> Result<Option<(Loc, Change)>, NoMemory>
-    ensures { IfOk result (λ r. shown r ≡ change_at_location (tree_program program.now) edit.now (Some location)) }
+    ensures { IfOk result (λ r. shown r ≡
+        change_at_location (tree_program program.now) edit.now (Some location)) }
 {
     match part_at(program, &location) {
         None => Ok(None),
@@ -52,7 +53,8 @@ fn changed_by(
     locations: &[Loc],
     patch: &Patch,
 ) -> Result<Option<(Loc, Change)>, NoMemory>
-    ensures { IfOk result (λ r. shown r ≡ change_of_patch (tree_program program.now) locations.now patch.now) }
+    ensures { IfOk result (λ r. shown r ≡
+        change_of_patch (tree_program program.now) locations.now patch.now) }
 {
     match locations.get(patch.loc as usize) {
         None => Ok(None),
@@ -67,7 +69,8 @@ fn with_change(
     program: &Program,
     there: &Option<(Loc, Change)>,
 ) -> Result<Program, NoMemory>
-    ensures { IfOk result (λ r. tree_program r ≡ changed_program (tree_program program.now) (shown there.now)) }
+    ensures { IfOk result (λ r. tree_program r ≡
+        changed_program (tree_program program.now) (shown there.now)) }
 {
     let mut copy = copy_program(alloc, program)?;
     match there {
@@ -87,7 +90,8 @@ fn apply_patch(
     patch: &Patch,
 ) -> Result<Typed, NoMemory>
     requires { IsChecked (tree_program program.now) }
-    ensures { IfOk result (λ r. tree_of r ≡ applied (tree_program program.now) locations.now patch.now) }
+    ensures { IfOk result (λ r. tree_of r ≡
+        applied (tree_program program.now) locations.now patch.now) }
 {
     let there = changed_by(alloc, program, locations, patch)?;
     let patched = with_change(alloc, program, &there)?;

@@ -53,6 +53,30 @@ const EARLIER: &[Row] = &[
     (Rule::Unknown, "@(q) + (q);"),
 ];
 
+/// Calls with more arguments than conversions: nothing is wanted of the others but that their parts are right.
+const BEYOND: &[Row] = &[
+    (Rule::BadFormat, "printf(\"\", a, @\"x\");"),
+    (Rule::BadFormat, "printf(\"\", f, @\"x\");"),
+    (Rule::BadFormat, "printf(\"%%\", g(), @\"x\");"),
+    (Rule::BadFormat, "printf(\"%d\", 1, a, @\"x\");"),
+    (Rule::BadFormat, "printf(\"%c%d\", 1, 2, g(), a, @\"x\");"),
+    (Rule::BadFormat, "scanf(\"%d\", &x, a, @\"x\");"),
+    (Rule::BadFormat, "scanf(\"%d\", &x, g(), @\"x\");"),
+    (Rule::WrongKind, "printf(\"%d\", @a, \"x\");"),
+    (Rule::WrongKind, "printf(\"%c%d\", 1, @g(), a, \"x\");"),
+    (Rule::WrongKind, "printf(\"\", @a + 1, \"x\");"),
+    (Rule::WrongKind, "printf(\"\", &@x, \"x\");"),
+    (Rule::WrongKind, "scanf(\"%d\", &x, &@x, \"x\");"),
+    (Rule::Unknown, "printf(\"\", @q, \"x\");"),
+    (Rule::Unknown, "scanf(\"%d\", &x, @q, \"x\");"),
+    (Rule::BadFormat, "printf(@\"%s\", a, \"x\");"),
+    (Rule::WrongCount, "@printf(\"\", a);"),
+    (Rule::WrongCount, "@printf(\"%d\", 1, a);"),
+    (Rule::WrongCount, "@printf(\"%d\", 1, g());"),
+    (Rule::WrongCount, "@scanf(\"%d\", &x, a);"),
+    (Rule::WrongCount, "@putchar(1, a, \"x\");"),
+];
+
 /// Files that break rules at two places.
 const EARLIER_IN_FILES: &[Row] = &[
     (Rule::LoopOnly, "void f(void) { @break; } int x;"),
@@ -141,6 +165,7 @@ const SAME_PLACE_IN_FILES: &[Row] = &[
 fn the_first_of_two_faults(rt: HostRuntime) -> Result<(), Fail> {
     for (rows, before, after) in [
         (EARLIER, BEFORE, AFTER),
+        (BEYOND, BEFORE, AFTER),
         (EARLIER_IN_FILES, "", MAIN),
         (SAME_PLACE, BEFORE, AFTER),
         (SAME_PLACE_IN_FILES, "", MAIN),

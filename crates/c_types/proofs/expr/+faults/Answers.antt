@@ -3,7 +3,7 @@ use Rattle.std.proofs.lemmas.Grind.{common_steps}
 use Rattle.c_tree.specs.declared.expr.Arg.{Arg}
 use Rattle.c_tree.specs.Views.{args_of}
 use Rattle.c_types.specs.declared.kinds.Kind.{Kind}
-use Rattle.c_types.specs.Arguments.{value_faults}
+use Rattle.c_types.specs.Arguments.{converted, wanted, value_faults}
 use Rattle.c_types.specs.Expressions.{args_faults}
 use Rattle.c_types.specs.Least.{least, earlier}
 use Rattle.c_types.specs.Scopes.{in_scope}
@@ -16,12 +16,13 @@ args_faults-loop-i-init t c = none_before _ _ c.none-faults.ensures
 
 pub args_faults-loop-i-preserved : goal.args_faults-loop-i-preserved
 args_faults-loop-i-preserved t c =
-    args_more (in_scope c.args.scope.now) (option_copied c.args.called) c.args.args.now c.loop-i.i c.index-args-i.result _ c.loop-i.faults.fault c.and-faults.result.fault c.arg_faults.result.fault (omega arith) c.index-args-i.is (c.arg_faults.ensures (option_copied c.args.called) c.loop-i.i _ c.wanted.ensures) c.and-faults.ensures c.loop-i.invariant
+    let want = wanted (option_copied c.args.called) (converted (args_of c.args.args.now)) in
+    args_more (in_scope c.args.scope.now) want c.args.args.now c.loop-i.i c.index-args-i.result _ c.loop-i.faults.fault c.and-faults.result.fault c.arg_faults.result.fault (omega arith) c.index-args-i.is (c.arg_faults.ensures want c.loop-i.i _ (c.wanted.ensures ∙ ap (λ n. wanted (option_copied c.args.called) n c.loop-i.i) c.converted-count.ensures)) c.and-faults.ensures c.loop-i.invariant
 
 pub args_faults-returns : goal.args_faults-returns
 args_faults-returns t c =
     let none : drop c.loop-i.i c.args.args.now ≡ [] = grind (arith, common_steps) in
-    none_after _ c.loop-i.faults.fault (c.loop-i.invariant ∙ ap (λ (xs : List Arg). earlier c.loop-i.faults.fault (least (args_faults (in_scope c.args.scope.now) (option_copied c.args.called) c.loop-i.i (args_of xs)))) none)
+    none_after _ c.loop-i.faults.fault (c.loop-i.invariant ∙ ap (λ (xs : List Arg). earlier c.loop-i.faults.fault (least (args_faults (in_scope c.args.scope.now) (wanted (option_copied c.args.called) (converted (args_of c.args.args.now))) c.loop-i.i (args_of xs)))) none)
 
 pub arg_faults-returns-in-Value : goal.arg_faults-returns-in-Value
 arg_faults-returns-in-Value t c m i rest is =
