@@ -1,5 +1,5 @@
 -- Calls of the functions of a program.
-use Rattle.std.proofs.Common.{◌≡◌, ◌≢◌, ℕ, zero, suc, ◌-◌, ◌<◌, ℤ, List, [], length, take, Option, Some, None, refl, sym, ap, ◌∙◌, arith}
+use Rattle.std.proofs.Common.{◌≡◌, ℕ, zero, suc, ◌-◌, ◌<◌, ℤ, List, [], length, take, Option, Some, None, refl, sym, ap, ◌∙◌, arith}
 use Rattle.c_tree.specs.Tree.{Body, Function, Outer}
 use Rattle.c_meaning.specs.declared.argument.Argument.{Argument}
 use Rattle.c_meaning.specs.declared.stop.End.TheVariants.{Trapped, Depth}

@@ -1,12 +1,11 @@
 -- Small programs, run by the definitions themselves.
-use Rattle.std.proofs.Common.{◌≡◌, ℕ, zero, suc, ℤ, pos, negsuc, List, [], ◌∷◌, codes, Bool, true, false, Option, Some, None, refl}
+use Rattle.std.proofs.Common.{◌≡◌, ℕ, ℤ, pos, negsuc, List, [], ◌∷◌, codes, Bool, true, false, Option, Some, None, refl}
 use Rattle.c_tree.specs.declared.expr.BinOp.TheVariants.{Add, Sub, Div, Lt, Eq, Both, Either}
 use Rattle.c_tree.specs.declared.stmt.Slot.TheVariants.{Local, Global}
 use Rattle.c_tree.specs.declared.stmt.Shape.TheVariants.{Scalar, Array}
-use Rattle.c_tree.specs.declared.stmt.Ty.{Ty}
 use Rattle.c_tree.specs.declared.stmt.Ty.TheVariants.{Int, Char}
 use Rattle.c_tree.specs.declared.program.Param.{Param}
-use Rattle.c_tree.specs.Tree.{Tree, constant, name, index, call, cast, binary, choice, assign, bump, comma, Args, no_args, value, Initial, bare_start, one_start, list_start, Variable, First, no_first, first_act, first_vars, Code, empty, act, block, if_then, while, do_while, for, give, break, continue, Body, done, next, vars, Outer, outer_vars, outer_func, no_span}
+use Rattle.c_tree.specs.Tree.{Tree, constant, name, index, call, binary, assign, bump, comma, no_args, value, Initial, bare_start, one_start, list_start, first_vars, act, block, if_then, while, do_while, for, give, break, continue, Body, done, next, vars, Outer, outer_vars, outer_func, no_span}
 use Rattle.c_stdio.specs.declared.test.Test.{Test}
 use Rattle.c_meaning.specs.declared.outcome.Outcome.TheVariants.{Passed, Wrong, Short, Status, Trapped, Budget, Depth}
 use Rattle.c_meaning.specs.Meaning.{looping, user_call}

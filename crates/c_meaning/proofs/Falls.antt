@@ -1,15 +1,16 @@
 -- Units only fall, so a loop has the equation that its turns suggest.
-use Rattle.std.proofs.Common.{◌≡◌, ℕ, zero, suc, ◌<◌, ◌≤◌, ◌+◌, ℤ, pos, negsuc, List, [], ◌∷◌, ◌++◌, length, slice_set, slice_get, nat_le, nat_lt, nat_eq, Option, Some, None, Bool, true, false, cond, refl, ap, arith as numbers}
+use Rattle.std.proofs.Common.{◌≡◌, ℕ, zero, suc, ◌<◌, ◌≤◌, ◌+◌, ℤ, pos, negsuc, List, [], ◌∷◌, ◌++◌, length, nat_le, nat_lt, Option, Some, None, Bool, true, false, cond, refl, ap, arith as numbers}
 use Rattle.c_tree.specs.declared.stmt.Slot.{Slot}
 use Rattle.c_tree.specs.declared.stmt.Slot.TheVariants.{Unset, Global, Local}
 use Rattle.c_tree.specs.declared.stmt.Ty.{Ty}
-use Rattle.c_arith.specs.Arith.{convert, byte_of, is_zero}
+use Rattle.c_arith.specs.Arith.{convert, is_zero}
+use Rattle.c_stdio.specs.Output.{is_expected, expected_after}
 use Rattle.c_meaning.specs.declared.stop.End.{End}
 use Rattle.c_meaning.specs.declared.stop.End.TheVariants.{Wrong, Trapped, Cells}
 use Rattle.c_meaning.specs.declared.stop.Flow.{Flow}
 use Rattle.c_meaning.specs.declared.stop.Flow.TheVariants.{Next, Break, Continue, Return}
 use Rattle.c_meaning.specs.World.{Object, World, Out, going, over, waiting, Run, pure, stop, and_then, ◌>>=◌, ◌>>◌}
-use Rattle.c_meaning.specs.Steps.{unit, unit_of, number_of, object_at, cells_of, cell_at, found, load, with_object_cell, store_object, store, live_cells, cell_limit, uninitialised, make, attach, known, object_of, object_count, cut, scoped, swap, framed, get_from, get_byte, put_into, put_byte}
+use Rattle.c_meaning.specs.Steps.{unit, unit_of, number_of, object_at, cells_of, cell_at, found, load, with_object_cell, store_object, store, live_cells, cell_limit, uninitialised, make, attach, known, object_of, object_count, cut, scoped, swap, framed, with_expected, get_byte, scan, put_text}
 use Rattle.c_meaning.specs.Meaning.{on_zero, on_turn, turn_test_first, turn_body_first, or_again, turns, looping}
 use Rattle.c_meaning.specs.Ends.{units_left}
 use Rattle.c_meaning.proofs.Related.{Kept}
@@ -112,19 +113,17 @@ swap_falls frame = record { by = λ w. omega numbers }
 pub framed_falls : {A : Type 0} {m : Run A} → Falls m → Falls (framed m)
 framed_falls p = bind_falls (swap_falls []) (λ outer. bind_falls p (λ a. bind_falls (swap_falls outer) (λ inner. pure_falls a)))
 
-get_from_falls : (bytes : List ℕ) (w : World) → units_left (get_from bytes w) ≤ w.units
-get_from_falls [] w = omega numbers
-get_from_falls (b ∷ bytes) w = omega numbers
-
 pub get_falls : Falls get_byte
-get_falls = record { by = λ w. get_from_falls w.input w }
+get_falls = record { by = λ w. omega numbers }
 
-put_into_falls : (bytes : List ℕ) (byte : ℕ) (w : World) → units_left (put_into bytes byte w) ≤ w.units
-put_into_falls [] byte w = omega numbers
-put_into_falls (b ∷ bytes) byte w = choice_falls (nat_eq b byte) (going (pos byte) (record w { expected = bytes })) (over Wrong w) w.units (omega numbers) (omega numbers)
+pub scan_falls : Falls scan
+scan_falls = record { by = λ w. omega numbers }
 
-pub put_falls : (v : ℤ) → Falls (put_byte v)
-put_falls v = record { by = λ w. put_into_falls w.expected (byte_of v) w }
+pub put_falls : (text : List ℕ) (v : ℤ) → Falls (put_text text v)
+put_falls text v = record {
+  by = λ w.
+      choice_falls (is_expected text w.io.expected) (going v (with_expected w (expected_after text w.io.expected))) (over Wrong (with_expected w (expected_after text w.io.expected))) w.units (omega numbers) (omega numbers);
+}
 
 -- no part of a run makes units
 pub falls : Kept (λ A m n. Falls m)
@@ -142,6 +141,7 @@ falls = record {
   at_scope = λ A m n h. scoped_falls h;
   at_frame = λ A m n h. framed_falls h;
   at_get = get_falls;
+  at_scan = scan_falls;
   at_put = put_falls;
   at_loop = λ s t h k. record { by = λ w. (k (suc w.units)).by w };
 }

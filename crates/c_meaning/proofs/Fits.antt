@@ -1,15 +1,16 @@
 -- A number in a cell is always a value of its object's type.
-use Rattle.std.proofs.Common.{◌≡◌, ℕ, zero, suc, ◌+◌, ℤ, pos, negsuc, List, [], ◌∷◌, ◌++◌, length, take, slice_get, slice_set, nat_le, nat_lt, nat_eq, Option, Some, None, Bool, true, false, cond, subst, sym, refl}
+use Rattle.std.proofs.Common.{◌≡◌, ℕ, zero, suc, ◌+◌, ℤ, pos, negsuc, List, [], ◌∷◌, ◌++◌, length, slice_get, slice_set, nat_le, nat_lt, Option, Some, None, Bool, true, false, cond, subst, refl}
 use Rattle.std.specs.Prelude.{All}
 use Rattle.std.proofs.lemmas.List.Elements.{All-cons, All-head, All-tail, All-push, All-replicate, All-take}
 use Rattle.c_tree.specs.declared.stmt.Slot.{Slot}
 use Rattle.c_tree.specs.declared.stmt.Slot.TheVariants.{Unset, Global, Local}
 use Rattle.c_tree.specs.declared.stmt.Ty.{Ty}
-use Rattle.c_arith.specs.Arith.{convert, byte_of}
+use Rattle.c_arith.specs.Arith.{convert}
+use Rattle.c_stdio.specs.Output.{is_expected, expected_after}
 use Rattle.c_arith.proofs.Conversions.{conversion_fits}
 use Rattle.c_meaning.specs.declared.stop.End.TheVariants.{Wrong, Trapped, Cells}
 use Rattle.c_meaning.specs.World.{Object, World, Out, going, over, waiting, Run, pure, and_then, ◌>>=◌}
-use Rattle.c_meaning.specs.Steps.{unit_of, number_of, object_at, cells_of, cell_at, found, with_cell, with_object_cell, store_object, store, live_cells, cell_limit, uninitialised, make, attach, known, cut, swap, get_from, put_into}
+use Rattle.c_meaning.specs.Steps.{unit_of, number_of, object_at, cells_of, cell_at, found, with_cell, with_object_cell, store_object, store, live_cells, cell_limit, uninitialised, make, attach, known, cut, swap, with_expected, put_text}
 use Rattle.c_meaning.specs.Meaning.{looping}
 use Rattle.c_meaning.specs.Laws.{FitsCell, FitsWorld, FitsOut, CellsFit}
 use Rattle.c_meaning.proofs.Related.{Kept, own_program, own_exec}
@@ -90,13 +91,10 @@ known_fits : (o : Option ℕ) (w : World) → FitsWorld w → FitsOut (known o w
 known_fits (Some n) w h = h
 known_fits None w h = h
 
-gets : (bytes : List ℕ) (w : World) → FitsWorld w → FitsOut (get_from bytes w)
-gets [] w h = h
-gets (b ∷ bytes) w h = h
-
-puts : (bytes : List ℕ) (byte : ℕ) (w : World) → FitsWorld w → FitsOut (put_into bytes byte w)
-puts [] byte w h = h
-puts (b ∷ bytes) byte w h = fits_cond (nat_eq b byte) (going (pos byte) (record w { expected = bytes })) (over Wrong w) h h
+puts : (text : List ℕ) (v : ℤ) (w : World) → FitsWorld w → FitsOut (put_text text v w)
+puts text v w h =
+    let x = with_expected w (expected_after text w.io.expected) in
+    fits_cond (is_expected text w.io.expected) (going v x) (over Wrong x) h h
 
 cut_fits : {A : Type 0} (n : ℕ) (o : Out A) → FitsOut o → FitsOut (and_then o (λ a. cut n >>= (λ u. pure a)))
 cut_fits n (going a x) h = All-take FitsObject n x.objects h
@@ -122,8 +120,9 @@ fits = record {
   at_object = λ slot. record { by = λ w h. known_fits (number_of slot w) w h };
   at_scope = λ A m n h. record { by = λ w fit. cut_fits (length w.objects) (m w) (h.by w fit) };
   at_frame = λ A m n h. record { by = λ w fit. frame_fits w.frame (m (record w { frame = [] })) (h.by (record w { frame = [] }) fit) };
-  at_get = record { by = λ w h. gets w.input w h };
-  at_put = λ v. record { by = λ w h. puts w.expected (byte_of v) w h };
+  at_get = record { by = λ w h. h };
+  at_scan = record { by = λ w h. h };
+  at_put = λ text v. record { by = puts text v };
   at_loop = λ s t h k. record { by = λ w fit. (k (suc w.units)).by w fit };
 }
 

@@ -1,19 +1,16 @@
 -- No part of a run leaves fewer objects than it found, so a block leaves as many.
-use Rattle.std.proofs.Common.{◌≡◌, ℕ, zero, suc, ◌+◌, ◌<◌, ◌≤◌, ℤ, pos, negsuc, List, [], ◌∷◌, ◌++◌, length, take, slice_get, slice_set, nat_le, nat_lt, nat_eq, Option, Some, None, Bool, true, false, cond, refl, sym, ap, ◌∙◌, arith, length-append}
+use Rattle.std.proofs.Common.{◌≡◌, ℕ, zero, suc, ◌+◌, ◌≤◌, ℤ, pos, negsuc, List, [], ◌∷◌, length, take, slice_set, nat_le, nat_lt, Option, Some, None, Bool, true, false, cond, ap, arith, length-append}
 use Rattle.std.specs.Prelude.{⊤}
 use Rattle.std.proofs.lemmas.List.{length-take}
-use Rattle.c_tree.specs.declared.place.Span.{Span}
 use Rattle.c_tree.specs.declared.stmt.Slot.{Slot}
 use Rattle.c_tree.specs.declared.stmt.Slot.TheVariants.{Unset, Global, Local}
 use Rattle.c_tree.specs.declared.stmt.Ty.{Ty}
-use Rattle.c_tree.specs.Tree.{Body, Outer, block}
-use Rattle.c_arith.specs.Arith.{convert, byte_of}
-use Rattle.c_meaning.specs.declared.stop.End.{End}
-use Rattle.c_meaning.specs.declared.stop.End.TheVariants.{Wrong, Trapped, Budget, Cells}
+use Rattle.c_arith.specs.Arith.{convert}
+use Rattle.c_stdio.specs.Output.{is_expected}
 use Rattle.c_meaning.specs.declared.stop.Flow.{Flow}
-use Rattle.c_meaning.specs.World.{Object, World, Out, going, over, waiting, Run, pure, stop, and_then, ◌>>=◌}
-use Rattle.c_meaning.specs.Steps.{unit, unit_of, number_of, object_at, cells_of, cell_at, found, load, with_cell, store_object, store, live_cells, cell_limit, uninitialised, make, attach, known, object_of, object_count, cut, scoped, swap, framed, get_from, get_byte, put_into, put_byte}
-use Rattle.c_meaning.specs.Meaning.{turns, looping, exec, run_body, calls, no_hole}
+use Rattle.c_meaning.specs.World.{Object, World, Out, going, over, waiting, Run, pure, and_then, ◌>>=◌}
+use Rattle.c_meaning.specs.Steps.{unit_of, number_of, object_at, cells_of, cell_at, found, with_cell, store_object, store, live_cells, cell_limit, uninitialised, make, attach, known, cut, swap, put_text}
+use Rattle.c_meaning.specs.Meaning.{looping, run_body, calls, no_hole}
 use Rattle.c_meaning.specs.Laws.{BlocksEnd}
 use Rattle.c_meaning.proofs.Related.{Kept, own_body}
 
@@ -76,13 +73,8 @@ known_grows : (o : Option ℕ) (w : World) → grown (length w.objects) (known o
 known_grows (Some n) w = omega arith
 known_grows None w = tt
 
-gets : (bytes : List ℕ) (w : World) → grown (length w.objects) (get_from bytes w)
-gets [] w = omega arith
-gets (b ∷ bytes) w = omega arith
-
-puts : (bytes : List ℕ) (byte : ℕ) (w : World) → grown (length w.objects) (put_into bytes byte w)
-puts [] byte w = tt
-puts (b ∷ bytes) byte w = grown_cond (length w.objects) (nat_eq b byte) _ _ (omega arith) tt
+puts : (text : List ℕ) (v : ℤ) (w : World) → grown (length w.objects) (put_text text v w)
+puts text v w = grown_cond (length w.objects) (is_expected text w.io.expected) _ _ (omega arith) tt
 
 -- what is cut off comes after the first objects
 cut_grows : {A : Type 0} (n : ℕ) (o : Out A) → grown n o → grown n (and_then o (λ a. cut n >>= (λ u. pure a)))
@@ -109,8 +101,9 @@ grows = record {
   at_object = λ slot. record { by = λ w. known_grows (number_of slot w) w };
   at_scope = λ A m n h. record { by = λ w. cut_grows (length w.objects) (m w) (h.by w) };
   at_frame = λ A m n h. record { by = λ w. frame_grows (length w.objects) w.frame (m (record w { frame = [] })) (h.by (record w { frame = [] })) };
-  at_get = record { by = λ w. gets w.input w };
-  at_put = λ v. record { by = λ w. puts w.expected (byte_of v) w };
+  at_get = record { by = λ w. omega arith };
+  at_scan = record { by = λ w. omega arith };
+  at_put = λ text v. record { by = puts text v };
   at_loop = λ s t h k. record { by = λ w. (k (suc w.units)).by w };
 }
 

@@ -5,7 +5,7 @@ use Rattle.c_tree.specs.declared.expr.Arg.{Arg}
 use Rattle.c_tree.specs.declared.expr.Arg.TheVariants.{Value', Format, Address'}
 use Rattle.c_tree.specs.declared.stmt.Item.{Item}
 use Rattle.c_tree.specs.Views.{node_tree, args_of, with_arg, with_item, body_of}
-use Rattle.c_tree.specs.Tree.{Tree, Args, no_args, Outer}
+use Rattle.c_tree.specs.Tree.{Args, no_args, Outer}
 use Rattle.c_meaning.specs.declared.argument.Argument.{Argument}
 use Rattle.c_meaning.specs.declared.argument.Argument.TheVariants.{Format as Text, Place}
 use Rattle.c_meaning.specs.declared.stop.End.{End}

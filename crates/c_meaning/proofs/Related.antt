@@ -1,15 +1,16 @@
 -- Two runs of one program are related where what its holes do is, for each relation that the single steps keep. All
 -- laws of runs are instances of this.
-use Rattle.std.proofs.Common.{ℕ, zero, suc, ◌-◌, ℤ, pos, List, [], ◌∷◌, length, Option, Some, None, Bool, true, false, cond, codes}
+use Rattle.std.proofs.Common.{ℕ, zero, suc, ◌-◌, ℤ, pos, negsuc, List, [], ◌∷◌, length, Option, Some, None, Bool, true, false, cond, codes}
 use Rattle.std.specs.Str.{bytes_eq}
-use Rattle.c_tree.specs.declared.expr.BinOp.{BinOp}
 use Rattle.c_tree.specs.declared.stmt.Slot.{Slot}
 use Rattle.c_tree.specs.declared.stmt.Ty.{Ty}
 use Rattle.c_tree.specs.declared.stmt.Ty.TheVariants.{Int}
 use Rattle.c_tree.specs.declared.stmt.Shape.{Shape}
 use Rattle.c_tree.specs.declared.program.Param.{Param}
 use Rattle.c_tree.specs.Tree.{Tree, constant, name, index, call, unary, cast, binary, choice, assign, bump, comma, hole, hole_after, Args, no_args, value, format, address, Initial, bare_start, one_start, list_start, Variable, First, no_first, first_act, first_vars, Code, empty, act, block, if_then, if_else, while, do_while, for, give, break, continue, Body, done, next, vars, Function, Outer, outer_vars, outer_func}
-use Rattle.c_arith.specs.Arith.{is_zero, op, prefix, convert, fitting}
+use Rattle.c_arith.specs.Arith.{is_zero, op, prefix, convert, fitting, byte_of}
+use Rattle.c_stdio.specs.declared.scan.Scan.{Scan}
+use Rattle.c_stdio.specs.declared.scan.Scan.TheVariants.{Number as Read, End as AtEnd, NoNumber, TooWide}
 use Rattle.c_meaning.specs.declared.argument.Argument.{Argument}
 use Rattle.c_meaning.specs.declared.argument.Argument.TheVariants.{Number, Array, Format, Place}
 use Rattle.c_meaning.specs.declared.stop.End.{End}
@@ -17,9 +18,9 @@ use Rattle.c_meaning.specs.declared.stop.End.TheVariants.{Trapped, Budget, Depth
 use Rattle.c_meaning.specs.declared.stop.Flow.{Flow}
 use Rattle.c_meaning.specs.declared.stop.Flow.TheVariants.{Next, Break, Continue, Return}
 use Rattle.c_meaning.specs.World.{Run, pure, stop, lift, used, ◌>>=◌, ◌>>◌}
-use Rattle.c_meaning.specs.Steps.{unit, load, store, make, attach, object_of, object_count, cut, scoped, swap, framed, get_byte, put_byte}
-use Rattle.c_meaning.specs.Library.{one_number, call_getchar, call_putchar, absolute, call_abs, call_exit, library}
-use Rattle.c_meaning.specs.Meaning.{on_zero, unless, on_next, on_turn, turn_of_while, turn_test_first, turn_body_first, or_again, turns, looping, decided, bump_op, slot_of, definition, params_of, takes_array, rest_of, passed, cell_count, make_variable, store_zeros, eval, index_of, evals, perform, store_list, declare_object, declare_local, declare, begin, test_of, step_of, run_for, exec, run_body, declare_global, declare_globals, make_globals, bind_param, bind_params, result_of, enter_body, enter, user_call, calls, no_hole, call_limit, run_program}
+use Rattle.c_meaning.specs.Steps.{unit, load, store, make, attach, object_of, scoped, framed, get_byte, scan, put_text}
+use Rattle.c_meaning.specs.Library.{one_number, call_getchar, call_putchar, numbers, text_with, print, call_printf, store_read, read_to, call_scanf, absolute, call_abs, call_exit, library}
+use Rattle.c_meaning.specs.Meaning.{on_zero, unless, on_next, on_turn, turn_test_first, turn_body_first, or_again, turns, looping, decided, bump_op, slot_of, definition, params_of, takes_array, rest_of, passed, cell_count, make_variable, store_zeros, eval, index_of, evals, perform, store_list, declare_object, declare_local, declare, begin, test_of, step_of, exec, run_body, declare_global, declare_globals, make_globals, bind_param, bind_params, result_of, enter_body, enter, user_call, calls, no_hole, call_limit, run_program}
 
 -- a relation between two runs that the single steps, their joins and loops keep
 pub record Kept (R : (A : Type 0) → Run A → Run A → Type 0) : Type 1 where
@@ -35,7 +36,8 @@ pub record Kept (R : (A : Type 0) → Run A → Run A → Type 0) : Type 1 where
   pub at_scope : (A : Type 0) (m n : Run A) → R A m n → R A (scoped m) (scoped n)
   pub at_frame : (A : Type 0) (m n : Run A) → R A m n → R A (framed m) (framed n)
   pub at_get : R ℤ get_byte get_byte
-  pub at_put : (v : ℤ) → R ℤ (put_byte v) (put_byte v)
+  pub at_scan : R Scan scan scan
+  pub at_put : (text : List ℕ) (v : ℤ) → R ℤ (put_text text v) (put_text text v)
   pub at_loop : (s t : Run (Option Flow)) → R (Option Flow) s t → ((n : ℕ) → R Flow (turns s n) (turns t n)) → R Flow (looping s) (looping t)
 
 module _ (R : (A : Type 0) → Run A → Run A → Type 0) (kept : Kept R) where
@@ -51,9 +53,12 @@ module _ (R : (A : Type 0) → Run A → Run A → Type 0) (kept : Kept R) where
   on_zero_related : (A : Type 0) (v : ℤ) (m n p q : Run A) → R A m p → R A n q → R A (on_zero v m n) (on_zero v p q)
   on_zero_related A v m n p q h k = chosen A (is_zero v) m n p q h k
 
+  lifted : (A : Type 0) (o : Option A) → R A (lift o) (lift o)
+  lifted A (Some a) = kept.at_pure A a
+  lifted A None = kept.at_stop A Trapped
+
   lift_related : (o : Option ℤ) → R ℤ (lift o) (lift o)
-  lift_related (Some a) = kept.at_pure ℤ a
-  lift_related None = kept.at_stop ℤ Trapped
+  lift_related = lifted ℤ
 
   used_related : {m n : Run (Option ℤ)} → R (Option ℤ) m n → R ℤ (used m) (used n)
   used_related h = bound h lift_related
@@ -123,12 +128,45 @@ module _ (R : (A : Type 0) → Run A → Run A → Type 0) (kept : Kept R) where
   getchar_related [] = some_related kept.at_get
   getchar_related (a ∷ gs) = kept.at_stop (Option ℤ) Trapped
 
+  print_related : (f : List ℕ) (vs : List ℤ) → R ℤ (print f vs) (print f vs)
+  print_related f vs = bound (lifted (List ℕ) (text_with f vs)) (λ bytes. kept.at_put bytes (pos (length bytes)))
+
+  printf_related : (gs : List Argument) → R (Option ℤ) (call_printf gs) (call_printf gs)
+  printf_related [] = kept.at_stop (Option ℤ) Trapped
+  printf_related (Number v ∷ gs) = kept.at_stop (Option ℤ) Trapped
+  printf_related (Array n ∷ gs) = kept.at_stop (Option ℤ) Trapped
+  printf_related (Format f ∷ gs) = bound (lifted (List ℤ) (numbers gs)) (λ vs. some_related (print_related f vs))
+  printf_related (Place slot i ∷ gs) = kept.at_stop (Option ℤ) Trapped
+
+  store_read_related : (slot : Slot) (i : ℤ) (found : Scan) → R ℤ (store_read slot i found) (store_read slot i found)
+  store_read_related slot i (Read v) = bound (kept.at_store slot i v) (λ u. kept.at_pure ℤ (pos 1))
+  store_read_related slot i AtEnd = kept.at_pure ℤ (negsuc 0)
+  store_read_related slot i NoNumber = kept.at_pure ℤ (pos 0)
+  store_read_related slot i TooWide = kept.at_stop ℤ Trapped
+
+  read_to_related : (gs : List Argument) → R (Option ℤ) (read_to gs) (read_to gs)
+  read_to_related [] = kept.at_stop (Option ℤ) Trapped
+  read_to_related (Number v ∷ gs) = kept.at_stop (Option ℤ) Trapped
+  read_to_related (Array n ∷ gs) = kept.at_stop (Option ℤ) Trapped
+  read_to_related (Format f ∷ gs) = kept.at_stop (Option ℤ) Trapped
+  read_to_related (Place slot i ∷ []) = bound kept.at_scan (λ found. some_related (store_read_related slot i found))
+  read_to_related (Place slot i ∷ a ∷ gs) = kept.at_stop (Option ℤ) Trapped
+
+  scanf_related : (gs : List Argument) → R (Option ℤ) (call_scanf gs) (call_scanf gs)
+  scanf_related [] = kept.at_stop (Option ℤ) Trapped
+  scanf_related (Number v ∷ gs) = kept.at_stop (Option ℤ) Trapped
+  scanf_related (Array n ∷ gs) = kept.at_stop (Option ℤ) Trapped
+  scanf_related (Format f ∷ gs) = chosen (Option ℤ) (bytes_eq f (codes "%d")) (read_to gs) (stop Trapped) (read_to gs) (stop Trapped) (read_to_related gs) (kept.at_stop (Option ℤ) Trapped)
+  scanf_related (Place slot i ∷ gs) = kept.at_stop (Option ℤ) Trapped
+
   library_related : (word : List ℕ) (gs : List Argument) (m n : Run (Option ℤ)) → R (Option ℤ) m n → R (Option ℤ) (library word gs m) (library word gs n)
   library_related word gs m n h =
       chosen (Option ℤ) (bytes_eq word (codes "getchar")) (call_getchar gs) _ (call_getchar gs) _ (getchar_related gs)
-      (chosen (Option ℤ) (bytes_eq word (codes "putchar")) (call_putchar gs) _ (call_putchar gs) _ (bound (one_number_related gs) (λ v. some_related (kept.at_put v)))
+      (chosen (Option ℤ) (bytes_eq word (codes "putchar")) (call_putchar gs) _ (call_putchar gs) _ (bound (one_number_related gs) (λ v. some_related (kept.at_put (byte_of v ∷ []) (pos (byte_of v)))))
+      (chosen (Option ℤ) (bytes_eq word (codes "printf")) (call_printf gs) _ (call_printf gs) _ (printf_related gs)
+      (chosen (Option ℤ) (bytes_eq word (codes "scanf")) (call_scanf gs) _ (call_scanf gs) _ (scanf_related gs)
       (chosen (Option ℤ) (bytes_eq word (codes "abs")) (call_abs gs) _ (call_abs gs) _ (bound (one_number_related gs) (λ v. some_related (lift_related (fitting Int (absolute v)))))
-      (chosen (Option ℤ) (bytes_eq word (codes "exit")) (call_exit gs) m (call_exit gs) n (bound (one_number_related gs) (λ v. kept.at_stop (Option ℤ) (Exit v))) h)))
+      (chosen (Option ℤ) (bytes_eq word (codes "exit")) (call_exit gs) m (call_exit gs) n (bound (one_number_related gs) (λ v. kept.at_stop (Option ℤ) (Exit v))) h)))))
 
   param_related : (ty : Ty) (slot : Slot) (a : Argument) → R (Unit {0}) (bind_param ty slot a) (bind_param ty slot a)
   param_related ty slot (Number v) = bound (variable_related ty slot 1) (λ u. bound (kept.at_store slot (pos 0) v) (λ u. kept.at_pure (Unit {0}) tt))

@@ -1,5 +1,5 @@
 -- The turns of a loop of a program.
-use Rattle.std.proofs.Common.{◌≡◌, ℕ, ◌<◌, ℤ, List, Option, Some, None, Err, ap, ◌∙◌}
+use Rattle.std.proofs.Common.{◌≡◌, ℕ, List, Option, Some, None, Err, ap, ◌∙◌}
 use Rattle.c_tree.specs.Tree.{Tree, Code, Outer}
 use Rattle.c_meaning.specs.declared.stop.End.{End}
 use Rattle.c_meaning.specs.declared.stop.Flow.{Flow}

@@ -23,12 +23,12 @@ outcome_at wanted AtTrap w = Trapped
 outcome_at wanted AtBudget w = Budget
 outcome_at wanted AtDepth w = Depth
 outcome_at wanted AtCells w = Cells
-outcome_at wanted (Exit n) w = finished wanted w.expected n
+outcome_at wanted (Exit n) w = finished wanted w.io.expected n
 
 -- the outcome of a run of a program; one that waits for a hole has none, and no program's own run
 -- does
 abbrev pub outcome_of : ℕ → Out ℤ → Outcome
-outcome_of wanted (going n w) = finished wanted w.expected n
+outcome_of wanted (going n w) = finished wanted w.io.expected n
 outcome_of wanted (over e w) = outcome_at wanted e w
 outcome_of wanted (waiting old w) = Trapped
 
@@ -44,8 +44,7 @@ first_world test limit = record {
   objects = [];
   globals = [];
   frame = [];
-  input = test.input;
-  expected = test.output;
+  io = record { input = test.input; expected = test.output };
   units = limit;
   tape = [];
 }

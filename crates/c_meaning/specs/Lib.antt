@@ -5,3 +5,4 @@ pub mod Meaning
 pub mod Own
 pub mod Ends
 pub mod Laws
+pub mod Filled

@@ -10,8 +10,7 @@ use Rattle.c_meaning.specs.declared.argument.Argument.{Argument}
 use Rattle.c_meaning.specs.declared.context.Context.{Context}
 use Rattle.c_meaning.specs.declared.stop.Flow.{Flow}
 use Rattle.c_meaning.specs.World.{Run, used}
-use Rattle.c_meaning.specs.Steps.{scoped}
-use Rattle.c_meaning.specs.Meaning.{Called, eval, index_of, evals, perform, store_list, declare_object, declare_local, declare, begin, test_of, step_of, turn_of_while, turn_test_first, turn_body_first, looping, run_for, exec, run_body, declare_global, declare_globals, make_globals, user_call, calls, no_hole}
+use Rattle.c_meaning.specs.Meaning.{Called, eval, index_of, evals, perform, store_list, declare_object, declare_local, declare, begin, test_of, step_of, turn_of_while, turn_test_first, turn_body_first, run_for, exec, run_body, declare_global, declare_globals, make_globals, user_call, calls, no_hole}
 
 module _ (c : Context) where
   -- the program

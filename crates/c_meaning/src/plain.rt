@@ -42,7 +42,7 @@ pub fn plain_run(
 fn run_on(alloc: Global, program: &Program, test: &Test, limit: u64) -> Result<Outcome, NoMemory>
     ensures { IfOk result (λ o. o ≡ outcome (program_tree program.now) test.now limit) }
 {
-    let mut state = State::new(alloc, test.input.as_slice(), test.output.as_slice(), limit);
+    let mut state = State::new(alloc, test, limit);
     match run_program(alloc, &program.externals, &mut state) {
         Ok(value) => Ok(finished(test.status, &state, value)),
         Err(Stop::Over(End::Exit(value))) => Ok(finished(test.status, &state, value)),
@@ -57,7 +57,7 @@ fn run_on(alloc: Global, program: &Program, test: &Test, limit: u64) -> Result<O
 
 /// The outcome after the return of a status, where the test's is the one that is wanted.
 fn finished(wanted: u8, state: &State<'_>, value: i64) -> Outcome
-    ensures { result ≡ finished_with wanted state.now.expected value }
+    ensures { result ≡ finished_with wanted state.now.io.expected value }
 {
     if !state.has_written_all() {
         return Outcome::Short;

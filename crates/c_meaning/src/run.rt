@@ -5,7 +5,8 @@
 
 ghost use Rattle.std.specs.Prelude.{[], ◌∷◌};
 ghost use Rattle.std.specs.Option.{option_map};
-ghost use Rattle.c_tree.specs.Tree.{call as call_tree, binary as binary_tree, choice as choice_tree, assign as assign_tree, bump as bump_tree, act as act_code, give as give_code, no_args, no_span};
+ghost use Rattle.c_tree.specs.Tree.{call as call_tree, binary as binary_tree, choice as choice_tree, assign as assign_tree, bump as bump_tree, no_args, no_span};
+ghost use Rattle.c_tree.specs.Tree.{act as act_code, give as give_code};
 ghost use Rattle.c_tree.specs.Views.{tree, trees, args_of, with_arg, code, body_of, variables, initial, first, tree_option, function as function_tree};
 ghost use Rattle.c_meaning.specs.World.{Gives};
 ghost use Rattle.c_meaning.specs.Steps.{scoped};
@@ -18,7 +19,7 @@ use crate::bind::{
     store_zeros, takes_array,
 };
 use crate::context::Context;
-use crate::library::{call_abs, call_exit, call_getchar, call_putchar};
+use crate::library::{call_abs, call_exit, call_getchar, call_printf, call_putchar, call_scanf};
 use crate::state::State;
 use crate::stop::{End, Flow, Stop};
 use c_arith::{binary, convert, unary};
@@ -217,6 +218,10 @@ fn call(
         call_getchar(&arguments, state)
     } else if word == b"putchar".as_slice() {
         call_putchar(&arguments, state)
+    } else if word == b"printf".as_slice() {
+        call_printf(context.alloc, &arguments, state)
+    } else if word == b"scanf".as_slice() {
+        call_scanf(&arguments, state)
     } else if word == b"abs".as_slice() {
         call_abs(&arguments, state)
     } else if word == b"exit".as_slice() {
@@ -463,10 +468,9 @@ fn exec(context: &Context<'_>, statement: &Stmt, state: &mut State<'_>) -> Resul
         } => {
             state.take_unit()?;
             if number(context, test, state)? == 0 {
-                Ok(Flow::Next)
-            } else {
-                exec(context, yes, state)
+                return Ok(Flow::Next);
             }
+            exec(context, yes, state)
         }
         StmtNode::If {
             test,
@@ -475,10 +479,9 @@ fn exec(context: &Context<'_>, statement: &Stmt, state: &mut State<'_>) -> Resul
         } => {
             state.take_unit()?;
             if number(context, test, state)? == 0 {
-                exec(context, no, state)
-            } else {
-                exec(context, yes, state)
+                return exec(context, no, state);
             }
+            exec(context, yes, state)
         }
         StmtNode::While { test, body } => run_while(context, test, body, state),
         StmtNode::Do { body, test } => run_do(context, body, test, state),

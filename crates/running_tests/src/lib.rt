@@ -6,6 +6,8 @@ mod ends;
 #[cfg(test)]
 mod functions;
 #[cfg(test)]
+mod library;
+#[cfg(test)]
 mod limits;
 #[cfg(test)]
 mod operators;
@@ -13,6 +15,8 @@ mod operators;
 mod order;
 #[cfg(test)]
 mod run;
+#[cfg(test)]
+mod scans;
 #[cfg(test)]
 mod units;
 #[cfg(test)]

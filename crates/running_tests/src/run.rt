@@ -41,3 +41,11 @@ pub fn outcome(alloc: Global, source: &[u8], test: &Test, limit: u64) -> Result<
     (limit <= 10_000_000).then_some(()).ok_or("no limit")?;
     Ok(plain_run(alloc, &typed, test, limit)?)
 }
+
+/// Whether a source is a program without a fault.
+pub fn is_accepted(alloc: Global, source: &[u8]) -> Result<bool, Fail> {
+    (source.len() < 10_000).then_some(()).ok_or("too long")?;
+    let end = source.len() as u32;
+    let tokens = lex(alloc, source)?;
+    Ok(check(alloc, parse(alloc, &tokens, end)?, end).is_ok())
+}

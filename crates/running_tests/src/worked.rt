@@ -43,6 +43,121 @@ int main(void) {
 }
 ";
 
+/// The lesser of two numbers.
+const LESSER: &str = r#"#include <stdio.h>
+int main(void) {
+    int a, b;
+    scanf("%d", &a);
+    scanf("%d", &b);
+    if (a < b)
+        printf("%d\n", a);
+    else
+        printf("%d\n", b);
+    return 0;
+}
+"#;
+
+/// The sum of the numbers up to one that is read.
+const SUM: &str = r#"#include <stdio.h>
+int main(void) {
+    int n, i, sum = 0;
+    if (scanf("%d", &n) != 1) {
+        printf("no number\n");
+        return 1;
+    }
+    for (i = 1; i <= n; i++)
+        sum += i;
+    printf("sum = %d\n", sum);
+    return 0;
+}
+"#;
+
+/// How many characters and lines there are.
+const COUNT: &str = r#"#include <stdio.h>
+int main(void) {
+    int c, characters = 0, lines = 0;
+    while ((c = getchar()) != EOF) {
+        characters++;
+        if (c == '\n')
+            lines++;
+    }
+    printf("%d %d\n", characters, lines);
+    return 0;
+}
+"#;
+
+/// A table of products.
+const TABLE: &str = r#"#include <stdio.h>
+int main(void) {
+    int n;
+    scanf("%d", &n);
+    for (int i = 1; i <= n; i++) {
+        for (int j = 1; j <= n; j++)
+            printf("%d%c", i * j, j < n ? '\t' : '\n');
+    }
+    return 0;
+}
+"#;
+
+/// The average of at most five numbers, to one digit after the point.
+const AVERAGE: &str = r#"#include <stdio.h>
+#define MOST 5
+int main(void) {
+    int marks[MOST], n = 0, sum = 0, i;
+    while (n < MOST && scanf("%d", &marks[n]) == 1)
+        n++;
+    for (i = 0; i < n; i++)
+        sum += marks[i];
+    printf("%d of %d: %d.%d\n", n, MOST, sum / n, sum * 10 / n % 10);
+    return 0;
+}
+"#;
+
+/// Factorials and powers, each by a function that calls itself.
+const RECURSION: &str = r#"#include <stdio.h>
+int factorial(int n) {
+    if (n <= 1)
+        return 1;
+    return n * factorial(n - 1);
+}
+
+int power(int base, int n) {
+    return n == 0 ? 1 : base * power(base, n - 1);
+}
+
+int main(void) {
+    int n;
+    while (scanf("%d", &n) == 1)
+        printf("%d! = %d, 2^%d = %d\n", n, factorial(n), n, power(2, n));
+    return 0;
+}
+"#;
+
+/// The digits of a number from its last, and the number of them as the status.
+const REVERSED: &str = r#"#include <stdio.h>
+#include <stdlib.h>
+int count;
+
+void digits(int n) {
+    if (n >= 10) {
+        printf("%d", n % 10);
+        count++;
+        digits(n / 10);
+        return;
+    }
+    printf("%d\n", n);
+    exit(count + 1);
+}
+
+int main(void) {
+    int n;
+    scanf("%d", &n);
+    digits(abs(n));
+    printf("never\n");
+    return 0;
+}
+"#;
+
 /// The programs with their tests.
 const ROWS: &[(&str, &[On])] = &[
     (
@@ -64,6 +179,120 @@ const ROWS: &[(&str, &[On])] = &[
     ),
     (INNER, &[(b"", b"\x02", 0, ENOUGH, Outcome::Passed)]),
     (ENDLESS, &[(b"", b"", 0, 50_000, Outcome::Budget)]),
+    (
+        LESSER,
+        &[
+            (b"1 2", b"1\n", 0, ENOUGH, Outcome::Passed),
+            (b"5 3\n", b"3\n", 0, ENOUGH, Outcome::Passed),
+            (b"-7\n-8", b"-8\n", 0, ENOUGH, Outcome::Passed),
+            (b"4 4", b"4\n", 0, ENOUGH, Outcome::Passed),
+            (b"1 2\n", b"2\n", 0, ENOUGH, Outcome::Wrong),
+            (b"5 3\n", b"5\n", 0, ENOUGH, Outcome::Wrong),
+            (b"1 2", b"1", 0, ENOUGH, Outcome::Wrong),
+            (b"1 2", b"1\n\n", 0, ENOUGH, Outcome::Short),
+            (b"1 2", b"1\n", 1, ENOUGH, Outcome::Status(0)),
+            // the second number isn't there
+            (b"1", b"1\n", 0, ENOUGH, Outcome::Trapped),
+            (b"1 x", b"1\n", 0, ENOUGH, Outcome::Trapped),
+            (b"1 2147483648", b"1\n", 0, ENOUGH, Outcome::Trapped),
+            // the entry, four statements, and the one that `if` selects
+            (b"1 2", b"1\n", 0, 6, Outcome::Passed),
+            (b"1 2", b"1\n", 0, 5, Outcome::Budget),
+        ],
+    ),
+    (
+        SUM,
+        &[
+            (b"4", b"sum = 10\n", 0, ENOUGH, Outcome::Passed),
+            (b"0", b"sum = 0\n", 0, ENOUGH, Outcome::Passed),
+            (b"-3", b"sum = 0\n", 0, ENOUGH, Outcome::Passed),
+            (b"100", b"sum = 5050\n", 0, ENOUGH, Outcome::Passed),
+            (b"4", b"sum = 11\n", 0, ENOUGH, Outcome::Wrong),
+            (b"4", b"sum: 10\n", 0, ENOUGH, Outcome::Wrong),
+            (b"", b"no number\n", 1, ENOUGH, Outcome::Passed),
+            (b"four", b"no number\n", 0, ENOUGH, Outcome::Status(1)),
+            (b"1000", b"sum = 500500\n", 0, ENOUGH, Outcome::Passed),
+            // each turn takes two units
+            (b"1000", b"sum = 500500\n", 0, 2_006, Outcome::Passed),
+            (b"1000", b"sum = 500500\n", 0, 2_005, Outcome::Budget),
+            (b"1000000", b"", 0, 10_000, Outcome::Budget),
+        ],
+    ),
+    (
+        COUNT,
+        &[
+            (b"", b"0 0\n", 0, ENOUGH, Outcome::Passed),
+            (b"a b\n\nc", b"6 2\n", 0, ENOUGH, Outcome::Passed),
+            (b"\0\xff\n", b"3 1\n", 0, ENOUGH, Outcome::Passed),
+            (b"ab", b"2 1\n", 0, ENOUGH, Outcome::Wrong),
+        ],
+    ),
+    (
+        TABLE,
+        &[
+            (b"1", b"1\n", 0, ENOUGH, Outcome::Passed),
+            (
+                b"3",
+                b"1\t2\t3\n2\t4\t6\n3\t6\t9\n",
+                0,
+                ENOUGH,
+                Outcome::Passed,
+            ),
+            (b"0", b"", 0, ENOUGH, Outcome::Passed),
+            (b"2", b"1 2\n2 4\n", 0, ENOUGH, Outcome::Wrong),
+            (b"2", b"1\t2\n2\t4\n3", 0, ENOUGH, Outcome::Short),
+            (b"", b"", 0, ENOUGH, Outcome::Trapped),
+        ],
+    ),
+    (
+        AVERAGE,
+        &[
+            (b"3 4", b"2 of 5: 3.5\n", 0, ENOUGH, Outcome::Passed),
+            (b"5 5 2 9 x", b"4 of 5: 5.2\n", 0, ENOUGH, Outcome::Passed),
+            (
+                b"1 2 3 4 5 6 7",
+                b"5 of 5: 3.0\n",
+                0,
+                ENOUGH,
+                Outcome::Passed,
+            ),
+            (b"3 4", b"2 of 5: 3.0\n", 0, ENOUGH, Outcome::Wrong),
+            (b"", b"", 0, ENOUGH, Outcome::Trapped),
+        ],
+    ),
+    (
+        RECURSION,
+        &[
+            (
+                b"0 5",
+                b"0! = 1, 2^0 = 1\n5! = 120, 2^5 = 32\n",
+                0,
+                ENOUGH,
+                Outcome::Passed,
+            ),
+            (
+                b"12",
+                b"12! = 479001600, 2^12 = 4096\n",
+                0,
+                ENOUGH,
+                Outcome::Passed,
+            ),
+            (b"13", b"13! = 1932053504", 0, ENOUGH, Outcome::Trapped),
+            (b"-1", b"", 0, ENOUGH, Outcome::Depth),
+            (b"3", b"3! = 6, 2^3 = 9\n", 0, ENOUGH, Outcome::Wrong),
+            (b"", b"", 0, ENOUGH, Outcome::Passed),
+        ],
+    ),
+    (
+        REVERSED,
+        &[
+            (b"7", b"7\n", 1, ENOUGH, Outcome::Passed),
+            (b"-1203", b"3021\n", 4, ENOUGH, Outcome::Passed),
+            (b"1203", b"3021\n", 0, ENOUGH, Outcome::Status(4)),
+            (b"1203", b"3021\nnever\n", 0, ENOUGH, Outcome::Short),
+            (b"-2147483648", b"", 0, ENOUGH, Outcome::Trapped),
+        ],
+    ),
 ];
 
 #[test]

@@ -1,4 +1,4 @@
-use Rattle.std.proofs.Common.{rules, ◌≡◌, ◌<◌, ◌≤◌, ◌∙◌, [], length, drop, arith}
+use Rattle.std.proofs.Common.{rules, ◌≡◌, ◌<◌, ◌∙◌, [], length, drop, arith}
 use Rattle.std.proofs.lemmas.List.{drop_all}
 use Rattle.c_meaning.proofs.Objects.{none_left}
 use Rattle.c_meaning.proofs.bind.bind_params.Goals as goal

@@ -1,4 +1,4 @@
-use Rattle.std.proofs.Common.{rules, ◌≡◌, ◌<◌, ◌∙◌, pos}
+use Rattle.std.proofs.Common.{◌∙◌}
 use Rattle.c_meaning.proofs.Objects.{clear_more}
 use Rattle.c_meaning.proofs.bind.store_zeros.Goals as goal
 

@@ -1,22 +1,18 @@
-use Rattle.std.proofs.Common.{rules, ◌≡◌, ◌≢◌, ◌<◌, ◌≤◌, ◌+◌, ◌-◌, ◌∙◌, ◌++◌, ℕ, ◌∷◌, [], List, drop, map, Option, Some, None, sym, ap, arith}
+use Rattle.std.proofs.Common.{rules, ◌≡◌, ◌<◌, ◌+◌, ◌-◌, ◌∙◌, ◌++◌, ◌∷◌, [], drop, map, Option, Some, None, sym, ap, arith}
 use Rattle.std.specs.Option.{option_map}
-use Rattle.c_tree.specs.declared.expr.Arg.{Arg}
-use Rattle.c_tree.specs.declared.expr.Expr.{Expr}
-use Rattle.c_tree.specs.declared.stmt.Declarator.{Declarator}
 use Rattle.c_tree.specs.declared.stmt.Stmt.{Stmt}
 use Rattle.c_tree.specs.declared.stmt.StmtNode.{StmtNode}
 use Rattle.c_tree.specs.declared.stmt.Item.{Item}
-use Rattle.c_tree.specs.Tree.{Function, done, no_args}
-use Rattle.c_tree.specs.Views.{tree, trees, args_of, with_arg, code, node_code, first, with_item, variables, tree_option, outer, function as function_tree, body_of}
-use Rattle.c_meaning.specs.declared.argument.Argument.{Argument}
+use Rattle.c_tree.specs.Tree.{done}
+use Rattle.c_tree.specs.Views.{tree, args_of, with_arg, code, node_code, first, with_item, variables, tree_option, outer, function as function_tree, body_of}
 use Rattle.c_meaning.specs.declared.stop.Flow.{Flow}
-use Rattle.c_meaning.specs.World.{World, going, used, and_then}
+use Rattle.c_meaning.specs.World.{going, used, and_then}
 use Rattle.c_meaning.specs.Meaning.{eval, exec, evals, run_body, bind_params, rest_of, looping, turn_of_while, turn_test_first, turn_body_first, test_of, step_of, run_for, result_of, user_call, calls, no_hole}
 use Rattle.c_meaning.proofs.Falls.{looping-turn}
 use Rattle.c_meaning.proofs.Trees.{call_is, block_is}
 use Rattle.c_meaning.proofs.Lists.{with_prefix, rest_args, one_argument, no_argument_given}
-use Rattle.c_meaning.proofs.Sizes.{weight, weights, variables_weight, code_weight, body_weight, function_weight, bound, arg_weight, item_weight, element_weight, declarator_weight, definition_below, entry_falls, entry_is}
-use Rattle.c_meaning.proofs.Turns.{while_turn, do_turn, for_turn, loop_goes, loop_ends, loop_err}
+use Rattle.c_meaning.proofs.Sizes.{weight, variables_weight, code_weight, body_weight, function_weight, bound, arg_weight, item_weight, element_weight, declarator_weight, definition_below, entry_falls}
+use Rattle.c_meaning.proofs.Turns.{while_turn, do_turn, for_turn, loop_goes}
 use Rattle.c_meaning.proofs.Callings.{user_stops, user_missing, user_bodyless, user_starts, restored, inside, goes_into, call_gives, after_call}
 use Rattle.c_meaning.proofs.run.+run.Goals as goal
 

@@ -1,4 +1,4 @@
-use Rattle.std.proofs.Common.{◌≡◌, ◌+◌, ◌*◌, drop, map, Some}
+use Rattle.std.proofs.Common.{◌≡◌, ◌+◌, ◌*◌, drop, map}
 use Rattle.std.specs.Option.{option_map}
 use Rattle.c_tree.specs.Tree.{no_args}
 use Rattle.c_tree.specs.Views.{tree, trees, args_of, with_arg, code, body_of, variables, initial, first, tree_option, outer, function as function_tree}
