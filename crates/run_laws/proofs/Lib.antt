@@ -1,0 +1,11 @@
+pub mod Well
+pub mod Keeping
+pub mod Sound
+pub mod Runs
+pub mod Faultless
+pub mod Finding
+pub mod Bodies
+pub mod Calls
+pub mod Formats
+pub mod Programs
+mod Examples

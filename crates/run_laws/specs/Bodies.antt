@@ -1,0 +1,205 @@
+-- In a run of a program the slot of each name that is read, written or passed names an object: in
+-- statements, in declarations, in the bodies of called functions, and so in the whole run.
+use Rattle.std.specs.Prelude.{⊤, ℕ, zero, suc, ℤ, pos, Bool, List, [], ◌∷◌, length, codes, Option, Some, None}
+use Rattle.c_tree.specs.declared.stmt.Slot.{Slot}
+use Rattle.c_tree.specs.declared.stmt.Ty.{Ty}
+use Rattle.c_tree.specs.Tree.{Tree, Initial, bare_start, one_start, list_start, Variable, First, no_first, first_act, first_vars, Code, empty, act, block, if_then, if_else, while, do_while, for, give, break, continue, Body, done, next, vars, Function, Outer, outer_vars, outer_func}
+use Rattle.c_arith.specs.Arith.{is_zero}
+use Rattle.c_types.specs.Statements.{is_array}
+use Rattle.c_meaning.specs.declared.argument.Argument.{Argument}
+use Rattle.c_meaning.specs.declared.stop.Flow.{Flow}
+use Rattle.c_meaning.specs.declared.stop.Flow.TheVariants.{Next, Break, Continue, Return}
+use Rattle.c_meaning.specs.World.{World, Run, pure, used, ◌>>◌}
+use Rattle.c_meaning.specs.Steps.{unit, store}
+use Rattle.c_meaning.specs.Meaning.{Filling, Called, turn_of_while, turn_test_first, turn_body_first, cell_count, make_variable, definition, eval, declare_local, declare, begin, test_of, step_of, exec, declare_global, declare_globals, make_globals, bind_params, calls, call_limit}
+use Rattle.run_laws.specs.Reads.{Then, Chosen, FindsObject, Inside, Finds}
+
+-- what holds of the rest of a block, if control goes on there
+abbrev pub IfNext : Flow → Type 0 → Type 0
+IfNext Next P = P
+IfNext Break P = ⊤
+IfNext Continue P = ⊤
+IfNext (Return v) P = ⊤
+
+-- what holds of the rest of a turn, if control stays in the loop
+abbrev pub IfStays : Flow → Type 0 → Type 0
+IfStays Next P = P
+IfStays Continue P = P
+IfStays Break P = ⊤
+IfStays (Return v) P = ⊤
+
+-- what holds of the next turn, if there is one
+abbrev pub IfAgain : Option Flow → Type 0 → Type 0
+IfAgain (Some flow) P = ⊤
+IfAgain None P = P
+
+-- what holds in a turn whose test comes first, by what holds in its parts
+abbrev pub InTestTurn :
+    (World → Type 0) → Run ℤ → (World → Type 0) → Run Flow → (World → Type 0) → World → Type 0
+InTestTurn T test B body S w =
+    Then (unit w) (λ u x.
+    T x
+    × Then (test x) (λ v y.
+    Chosen (is_zero v) ⊤ (B y × Then (body y) (λ flow z. IfStays flow (S z)))))
+
+-- the same of a turn whose body comes first
+abbrev pub InBodyTurn : (World → Type 0) → Run Flow → (World → Type 0) → World → Type 0
+InBodyTurn B body T w = B w × Then (body w) (λ flow x. IfStays flow (Then (unit x) (λ u y. T y)))
+
+-- the same of at most n turns
+abbrev pub InTurns : (World → Type 0) → Run (Option Flow) → ℕ → World → Type 0
+InTurns T turn zero w = ⊤
+InTurns T turn (suc n) w = T w × Then (turn w) (λ o x. IfAgain o (InTurns T turn n x))
+
+-- the same of a loop
+abbrev pub InLoop : (World → Type 0) → Run (Option Flow) → World → Type 0
+InLoop T turn w = InTurns T turn (suc w.units) w
+
+-- the unit that an initialiser takes in a function
+abbrev pub unit_for : Initial → Run (Unit {0})
+unit_for bare_start = pure tt
+unit_for (one_start e) = unit
+unit_for (list_start es) = unit
+
+-- how many initialisers are listed
+abbrev pub listed : Initial → ℕ
+listed bare_start = 0
+listed (one_start e) = 1
+listed (list_start es) = length es
+
+module _ (filling : Filling) (program : List Outer) (called : Called) (inside : Inside) where
+  -- it is so in an expression that may be absent
+  abbrev pub FindsOption : Option Tree → World → Type 0
+  FindsOption None w = ⊤
+  FindsOption (Some e) w = Finds filling program called inside e w
+
+  -- the same of a list of initialisers of a variable, from that cell on
+  abbrev pub FindsList : Slot → Bool → ℕ → List Tree → World → Type 0
+  FindsList slot array at [] w = FindsObject w slot array
+  FindsList slot array at (e ∷ es) w =
+      Finds filling program called inside e w
+      × Then (used (eval filling program called e) w) (λ v x.
+      FindsObject x slot array
+      × Then (store slot (pos at) v x) (λ u y. FindsList slot array (suc at) es y))
+
+  -- the same of an initialiser, where the variable's object is made
+  abbrev pub FindsInitial : Slot → Bool → Initial → World → Type 0
+  FindsInitial slot array bare_start w = FindsObject w slot array
+  FindsInitial slot array (one_start e) w =
+      Finds filling program called inside e w
+      × Then (used (eval filling program called e) w) (λ v x. FindsObject x slot array)
+  FindsInitial slot array (list_start es) w = FindsList slot array 0 es w
+
+  -- the same of a declaration in a function
+  abbrev pub FindsLocals : Ty → List Variable → World → Type 0
+  FindsLocals ty [] w = ⊤
+  FindsLocals ty (v ∷ vs) w =
+      Then ((unit_for v.start >> make_variable ty v.slot (cell_count v.shape (listed v.start))) w)
+      (λ u x. FindsInitial v.slot (is_array v.shape) v.start x)
+      × Then (declare_local filling program called ty v.slot v.shape v.start w) (λ u x.
+      FindsLocals ty vs x)
+
+  -- the same of a declaration at file scope
+  abbrev pub FindsGlobals : Ty → List Variable → World → Type 0
+  FindsGlobals ty [] w = ⊤
+  FindsGlobals ty (v ∷ vs) w =
+      Then (make_variable ty v.slot (cell_count v.shape (listed v.start)) w)
+      (λ u x. FindsInitial v.slot (is_array v.shape) v.start x)
+      × Then (declare_global filling program called ty v.slot v.shape v.start w) (λ u x.
+      FindsGlobals ty vs x)
+
+  -- the same of the first clause of a `for`
+  abbrev pub FindsFirst : First → World → Type 0
+  FindsFirst no_first w = ⊤
+  FindsFirst (first_act e) w = Finds filling program called inside e w
+  FindsFirst (first_vars ty vs) w = FindsLocals ty vs w
+
+  abbrev mutual
+    -- the same of a statement
+    pub FindsCode : Code → World → Type 0
+    FindsCode (empty s) w = ⊤
+    FindsCode (act e s) w = Then (unit w) (λ u x. Finds filling program called inside e x)
+    FindsCode (block body s) w = FindsBody body w
+    FindsCode (if_then t a s) w =
+        Then (unit w) (λ u x.
+        Finds filling program called inside t x
+        × Then (used (eval filling program called t) x) (λ v y.
+        Chosen (is_zero v) ⊤ (FindsCode a y)))
+    FindsCode (if_else t a b s) w =
+        Then (unit w) (λ u x.
+        Finds filling program called inside t x
+        × Then (used (eval filling program called t) x) (λ v y.
+        Chosen (is_zero v) (FindsCode b y) (FindsCode a y)))
+    FindsCode (while t a s) w =
+        let test = used (eval filling program called t) in
+        let body = exec filling program called a in
+        InLoop (InTestTurn (Finds filling program called inside t) test (FindsCode a) body (λ x. ⊤))
+        (turn_of_while test body) w
+    FindsCode (do_while a t s) w =
+        let test = used (eval filling program called t) in
+        let body = exec filling program called a in
+        InLoop (InBodyTurn (FindsCode a) body (Finds filling program called inside t))
+        (turn_body_first body test) w
+    FindsCode (for i t u a s) w =
+        let test = test_of filling program called t in
+        let body = exec filling program called a in
+        FindsFirst i w
+        × Then (begin filling program called i w) (λ o x.
+        InLoop (InTestTurn (FindsOption t) test (FindsCode a) body (FindsOption u))
+        (turn_test_first test body (step_of filling program called u)) x)
+    FindsCode (give e s) w = Then (unit w) (λ u x. FindsOption e x)
+    FindsCode (break s) w = ⊤
+    FindsCode (continue s) w = ⊤
+
+    -- the same of the items of a block
+    pub FindsBody : Body → World → Type 0
+    FindsBody done w = ⊤
+    FindsBody (next c rest) w =
+        FindsCode c w
+        × Then (exec filling program called c w) (λ flow x. IfNext flow (FindsBody rest x))
+    FindsBody (vars ty vs rest) w =
+        FindsLocals ty vs w
+        × Then (declare filling program called ty vs w) (λ u x. FindsBody rest x)
+
+  -- the same of the declarations of file scope
+  abbrev pub FindsOuters : List Outer → World → Type 0
+  FindsOuters [] w = ⊤
+  FindsOuters (outer_vars ty vs ∷ rest) w =
+      FindsGlobals ty vs w
+      × Then (declare_globals filling program called ty vs w) (λ u x. FindsOuters rest x)
+  FindsOuters (outer_func f ∷ rest) w = FindsOuters rest w
+
+-- what holds in the body of a function holds in the call, after the parameters are bound
+abbrev pub InDefinition : (Body → World → Type 0) → Function → Option Body → List Argument → World → Type 0
+InDefinition go f None gs w = ⊤
+InDefinition go f (Some body) gs w =
+    Then (unit w) (λ u x.
+    Then (bind_params f.params gs (record x { frame = [] })) (λ o y. go body y))
+
+-- the same of a function, if there is one
+abbrev pub InFunction : (Body → World → Type 0) → Option Function → List Argument → World → Type 0
+InFunction go None gs w = ⊤
+InFunction go (Some f) gs w = InDefinition go f f.body gs w
+
+-- it is so in a call of a function, where so many more calls may be live
+unfoldable pub FindsCall :
+    Filling → List Outer → ℕ → Option Function → List Argument → World → Type 0
+FindsCall filling program zero f gs w = ⊤
+FindsCall filling program (suc n) f gs w =
+    InFunction
+    (FindsBody filling program (calls filling program n)
+    (λ word given x. FindsCall filling program n (definition word program) given x))
+    f gs w
+
+-- the same by the called word
+abbrev pub in_calls : Filling → List Outer → ℕ → Inside
+in_calls filling program n word gs w = FindsCall filling program n (definition word program) gs w
+
+-- it is so in the whole run of a program: in the declarations of file scope, and then in the call
+-- of `main`
+abbrev pub RunFinds : Filling → List Outer → World → Type 0
+RunFinds filling program w =
+    FindsOuters filling program (calls filling program call_limit)
+    (in_calls filling program call_limit) program w
+    × Then (make_globals filling program (calls filling program call_limit) program w) (λ u x.
+    FindsCall filling program call_limit (definition (codes "main") program) [] x)

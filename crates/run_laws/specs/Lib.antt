@@ -1,0 +1,6 @@
+pub mod Typed
+pub mod Holes
+pub mod Places
+pub mod Reads
+pub mod Bodies
+pub mod Laws

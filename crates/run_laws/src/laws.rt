@@ -1,0 +1,52 @@
+//! Laws of the runs of checked programs, each the contract of a function that does nothing.
+
+ghost use Rattle.run_laws.specs.Laws.{CheckedAreSound, HolesAreTyped, HolesFit, NamesHaveObjects};
+ghost use Rattle.run_laws.specs.Laws.{TypedStatesShowVariables, StatementsKeepTypes, ExpressionsFindObjects};
+ghost use Rattle.run_laws.specs.Laws.{RunsFindObjects, FormatsAgree};
+
+/// A checked program has no fault, and each of its names has its slot. The other laws ask for this alone, since a program
+/// with a hole may have it too, though no text is that program.
+pub fn checked_are_sound()
+    ensures { CheckedAreSound }
+{}
+
+/// Wherever a run of such a program waits for a hole, each variable that is in scope there has a live object of its type
+/// (C11 6.2.4), and each number in an object is a value of that type.
+pub fn holes_are_typed()
+    ensures objects { HolesAreTyped }
+    ensures numbers { HolesFit }
+{}
+
+/// In a state that is typed by the scope of a name, the slot of the name names an object of the variable that the name
+/// denotes.
+pub fn names_have_objects()
+    ensures { NamesHaveObjects }
+{}
+
+/// A state that is typed by a scope shows each variable that is visible there: its object, and in it values of the
+/// variable's type alone.
+pub fn typed_states_show_variables()
+    ensures { TypedStatesShowVariables }
+{}
+
+/// A statement without a fault, in which each name has its slot, keeps the state typed by the scope in which it stands.
+pub fn statements_keep_types()
+    ensures { StatementsKeepTypes }
+{}
+
+/// In the evaluation of an expression without a fault, in which each name has its slot, each slot that is read, written
+/// or passed names a live object.
+pub fn expressions_find_objects()
+    ensures { ExpressionsFindObjects }
+{}
+
+/// In a run of a program without a fault, in which each name has its slot, each slot that is read, written or passed
+/// names a live object: in the declarations of file scope, in `main`, and in each function that is called.
+pub fn runs_find_objects()
+    ensures { RunsFindObjects }
+{}
+
+/// The rules of kinds and the printing count the conversions of a format alike.
+pub fn formats_agree()
+    ensures { FormatsAgree }
+{}
