@@ -1,6 +1,10 @@
 //! Whole calls over fakes: how each ends, and what it leaves on both sinks.
 
 mod refusals;
+mod repairs;
+mod suites;
+mod words;
+mod worked;
 
 use fx_io::{MemFiles, MemSink};
 use repair_cli::run_alone;
@@ -99,9 +103,12 @@ struct Want<'a> {
     err: &'a str,
 }
 
-// The words of this line.
+// The words of this line, each up to the next space; of an empty line there are none.
 fn words_of(alloc: Global, line: &str) -> Result<Vec<String>, AllocError> {
     let mut words = Vec::new(alloc);
+    if line.is_empty() {
+        return Ok(words);
+    }
     for word in line.split(' ') {
         words.push(String::from_str(alloc, word)?)?;
     }
@@ -128,7 +135,7 @@ fn call(
         bytes.suite.to_vec(alloc)?,
     ))?;
     let mut files = MemFiles::new(held, [failing.files].to_vec(alloc)?, 4096);
-    let mut out = MemSink::new(alloc, 400, [failing.out].to_vec(alloc)?, 10)?;
+    let mut out = MemSink::new(alloc, 2000, [failing.out].to_vec(alloc)?, 10)?;
     let mut err = MemSink::new(alloc, 100, [failing.err].to_vec(alloc)?, 10)?;
     let status = run_alone(alloc, &words, &mut files, &mut out, &mut err);
     assert_eq!(rt; status.number(), want.number, "{line}");
@@ -139,13 +146,9 @@ fn call(
 
 const SOUND: &str = "nothing to repair\n";
 
-const USAGE: &str = "usage: f1x repair PROGRAM SUITE\n";
+const USAGE: &str = "usage: f1x repair PROGRAM SUITE [--limit=N]\n";
 
 const REFUSED: &str = "p.c: unsupported\n";
-
-const BAD_SUITE: &str = "s.json: bad suite\n";
-
-const NO_A: &str = "f1x: cannot read a\n";
 
 const NO_PROGRAM: &str = "f1x: cannot read p.c\n";
 
@@ -153,49 +156,16 @@ const NO_SUITE: &str = "f1x: cannot read s.json\n";
 
 const NO_WRITE: &str = "f1x: cannot write\n";
 
-/// A line of words, the bytes of both files, and how the call must end where no call fails.
-type Row = (
-    &'static str,
-    &'static str,
-    &'static str,
-    u8,
-    &'static str,
-    &'static str,
-);
-
-/// Lines of words.
-const LINES: [Row; 14] = [
-    ("", NEXT, PASSED, 3, "", USAGE),
-    ("repair", NEXT, PASSED, 3, "", USAGE),
-    ("repair p.c", NEXT, PASSED, 3, "", USAGE),
-    ("repair p.c s.json s.json", NEXT, PASSED, 3, "", USAGE),
-    ("repair  s.json", NEXT, PASSED, 3, "", USAGE),
-    ("repair p.c ", NEXT, PASSED, 3, "", USAGE),
-    ("repair -p.c s.json", NEXT, PASSED, 3, "", USAGE),
-    ("repair p.c -", NEXT, PASSED, 3, "", USAGE),
-    ("mend p.c s.json", NEXT, PASSED, 3, "", USAGE),
-    ("repair a s.json", NEXT, PASSED, 6, "", NO_A),
-    ("repair p.c b", NEXT, PASSED, 6, "", "f1x: cannot read b\n"),
-    ("repair a b", NEXT, PASSED, 6, "", NO_A),
-    (
-        "repair p.c b",
-        "",
-        PASSED,
-        4,
-        "",
-        "p.c:1:1: unexpected token\n",
-    ),
-    ("repair p.c p.c", NEXT, PASSED, 5, "", "p.c: bad suite\n"),
-];
+/// A program, a suite, and how a call on them must end where no call fails.
+type Row = (&'static str, &'static str, u8, &'static str, &'static str);
 
 /// Programs and suites.
-const FILES: [Row; 20] = [
-    (LINE, "@", "[", 4, "", "p.c:1:1: stray byte\n"),
-    (LINE, UNDECLARED, PASSED, 4, "", "p.c:1:18: unknown name\n"),
-    (LINE, NEXT, "", 5, "", BAD_SUITE),
-    (LINE, NEXT, "[", 5, "", BAD_SUITE),
+const FILES: [Row; 19] = [
+    ("@", "[", 4, "", "p.c:1:1: stray byte\n"),
+    (UNDECLARED, PASSED, 4, "", "p.c:1:18: unknown name\n"),
+    (UNDECLARED, "[", 4, "", "p.c:1:18: unknown name\n"),
+    (NEXT, "[", 5, "", "s.json: not JSON\n"),
     (
-        LINE,
         "int main(void) { for (;;) { break; } }",
         PASSED,
         1,
@@ -203,42 +173,21 @@ const FILES: [Row; 20] = [
         "",
     ),
     (
-        LINE,
         "int main(void) { putchar(",
         PASSED,
         4,
         "",
         "p.c:1:26: unexpected token\n",
     ),
-    (LINE, IDLE, "{}", 5, "", BAD_SUITE),
-    (LINE, IDLE, r#"{"tests":[{"outp"#, 5, "", BAD_SUITE),
     (
-        LINE,
         IDLE,
         r#"{"tests":[{"output":"","status":0,"name":""}]}"#,
         2,
         SOUND,
         "",
     ),
+    (IDLE, r#"{"limit":2,"tests":[{"output":""}]}"#, 2, SOUND, ""),
     (
-        LINE,
-        IDLE,
-        r#"{"tests":[{"output":"","status":256}]}"#,
-        5,
-        "",
-        BAD_SUITE,
-    ),
-    (LINE, IDLE, r#"{"limit":0,"tests":[]}"#, 5, "", BAD_SUITE),
-    (
-        LINE,
-        IDLE,
-        r#"{"limit":2,"tests":[{"output":""}]}"#,
-        2,
-        SOUND,
-        "",
-    ),
-    (
-        LINE,
         IDLE,
         r#"{"limit":1,"tests":[{"output":""}]}"#,
         1,
@@ -246,7 +195,6 @@ const FILES: [Row; 20] = [
         "",
     ),
     (
-        LINE,
         "int main(void) { return 257; }",
         r#"{"tests":[{"output":"","status":1}]}"#,
         2,
@@ -254,7 +202,6 @@ const FILES: [Row; 20] = [
         "",
     ),
     (
-        LINE,
         IDLE,
         r#"{"tests":[{"output":"x","output":""}]}"#,
         2,
@@ -262,7 +209,6 @@ const FILES: [Row; 20] = [
         "",
     ),
     (
-        LINE,
         "int main(void) { return 256; }",
         r#"{"tests":[{"output":""}]}"#,
         2,
@@ -270,34 +216,41 @@ const FILES: [Row; 20] = [
         "",
     ),
     (
-        LINE,
         "int main(void) { return 1; }",
         r#"{"tests":[{"output":""}]}"#,
         1,
         "none\n",
         "",
     ),
-    (LINE, NEXT, NO_TESTS, 2, SOUND, ""),
-    (LINE, NEXT, PASSED, 2, SOUND, ""),
-    (LINE, NEXT, LAST_FAILS, 1, "none\n", ""),
+    (
+        "int main(void) { int a; scanf(\"%d\", &a); printf(\"%d\", a); }",
+        NO_TESTS,
+        2,
+        SOUND,
+        "",
+    ),
+    ("int main(void) { printf(\"a\"); }", PASSED, 1, "none\n", ""),
+    // A program with no expression has no patch.
+    (
+        "int main(void){}",
+        r#"{"tests":[{"output":"x"}]}"#,
+        1,
+        "none\n",
+        "",
+    ),
+    (NEXT, NO_TESTS, 2, SOUND, ""),
+    (NEXT, PASSED, 2, SOUND, ""),
+    (NEXT, LAST_FAILS, 1, "none\n", ""),
 ];
 
-// Calls as the row says, and looks how it ends.
+// Calls on the files of the row, and looks how it ends.
 fn judge(rt: &impl Abort, alloc: Global, row: Row) -> Result<(), Fail> {
-    let (line, program, suite, number, out, err) = row;
+    let (program, suite, number, out, err) = row;
     let bytes = Bytes {
         program: program.as_bytes(),
         suite: suite.as_bytes(),
     };
-    call(rt, alloc, line, bytes, SURE, Want { number, out, err })
-}
-
-#[test]
-fn judges_words(rt: HostRuntime) -> Result<(), Fail> {
-    for row in LINES {
-        judge(&rt, rt.alloc(), row)?;
-    }
-    Ok(())
+    call(rt, alloc, LINE, bytes, SURE, Want { number, out, err })
 }
 
 #[test]
@@ -305,7 +258,28 @@ fn judges_files(rt: HostRuntime) -> Result<(), Fail> {
     for row in FILES {
         judge(&rt, rt.alloc(), row)?;
     }
-    Ok(())
+    // The program is judged before the suite is looked for.
+    let bytes = Bytes {
+        program: b"",
+        suite: b"",
+    };
+    let want = Want {
+        number: 4,
+        out: "",
+        err: "p.c:1:1: unexpected token\n",
+    };
+    call(&rt, rt.alloc(), "repair p.c b", bytes, SURE, want)?;
+    // One file can be both.
+    let want = Want {
+        number: 5,
+        out: "",
+        err: "p.c: not JSON\n",
+    };
+    let bytes = Bytes {
+        program: NEXT.as_bytes(),
+        suite: b"",
+    };
+    call(&rt, rt.alloc(), "repair p.c p.c", bytes, SURE, want)
 }
 
 // This text, and spaces after it up to this length.
@@ -319,7 +293,7 @@ fn padded(alloc: Global, text: &str, length: usize) -> Result<Vec<u8>, AllocErro
 fn judges_lengths(rt: HostRuntime) -> Result<(), Fail> {
     for (program_length, suite_length, number, out, err) in [
         (65_536, 4_194_304, 2, "nothing to repair\n", ""),
-        (65_536, 4_194_305, 5, "", BAD_SUITE),
+        (65_536, 4_194_305, 5, "", "s.json: too long\n"),
         (65_537, 100, 4, "", "p.c: too long\n"),
     ] {
         let program = padded(rt.alloc(), NEXT, program_length)?;
@@ -412,58 +386,17 @@ const SOURCES: [(&str, &str, &str, usize, &str); 4] = [
     ("a = 1;", "putchar(1);", "", 2048, REFUSED),
 ];
 
-/// Suites at a limit and beyond it: the head, the piece, how often, the tail, and how the call must end.
-const SUITES: [(&str, &str, usize, &str, u8); 4] = [
-    (
-        r#"{"tests":[{"output":""}"#,
-        r#",{"output":""}"#,
-        255,
-        "]}",
-        2,
-    ),
-    (
-        r#"{"tests":[{"output":""}"#,
-        r#",{"output":""}"#,
-        256,
-        "]}",
-        5,
-    ),
-    (
-        r#"{"tests":[{"output":"","input":""#,
-        "x",
-        65_536,
-        r#""}]}"#,
-        2,
-    ),
-    (
-        r#"{"tests":[{"output":"","input":""#,
-        "x",
-        65_537,
-        r#""}]}"#,
-        5,
-    ),
-];
-
-// How a call ends that accepts both files, or refuses the suite.
-fn ends(number: u8) -> Want<'static> {
-    match number {
-        2 => Want {
-            number,
-            out: SOUND,
-            err: "",
-        },
-        _ => Want {
-            number,
-            out: "",
-            err: BAD_SUITE,
-        },
-    }
-}
+/// The call finds nothing to repair.
+const FINDS_NOTHING: Want<'static> = Want {
+    number: 2,
+    out: SOUND,
+    err: "",
+};
 
 // How a call ends that accepts both files, or refuses the program with this message.
 fn judged(message: &'static str) -> Want<'static> {
     if message.is_empty() {
-        return ends(2);
+        return FINDS_NOTHING;
     }
     Want {
         number: 4,
@@ -488,19 +421,26 @@ fn keeps_its_limits(rt: HostRuntime) -> Result<(), Fail> {
         };
         call(&rt, rt.alloc(), LINE, bytes, SURE, judged(message))?;
     }
-    for (head, piece, count, tail, number) in SUITES {
-        let suite = nested(rt.alloc(), head, (piece, "", ""), tail, count)?;
+    Ok(())
+}
+
+#[test]
+fn keeps_its_nesting(rt: HostRuntime) -> Result<(), Fail> {
+    for (count, message) in [(63, ""), (64, "p.c:1:86: nested too deep\n")] {
+        let program = nested(
+            rt.alloc(),
+            "int main(void){return ",
+            ("(", "0", ")"),
+            ";}",
+            count,
+        )?;
         let bytes = Bytes {
-            program: IDLE.as_bytes(),
-            suite: &suite,
+            program: &program,
+            suite: NO_TESTS.as_bytes(),
         };
-        call(&rt, rt.alloc(), LINE, bytes, SURE, ends(number))?;
+        call(&rt, rt.alloc(), LINE, bytes, SURE, judged(message))?;
     }
-    let bytes = Bytes {
-        program: IDLE.as_bytes(),
-        suite: b"{\"tests\":[{\"output\":\"\xff\"}]}",
-    };
-    call(&rt, rt.alloc(), LINE, bytes, SURE, ends(5))
+    Ok(())
 }
 
 // Escapes of characters whose UTF-8 text has each byte that such a text can have.
@@ -531,82 +471,7 @@ fn passes_every_byte(rt: HostRuntime) -> Result<(), Fail> {
         program: ECHO.as_bytes(),
         suite: suite.as_bytes(),
     };
-    call(&rt, rt.alloc(), LINE, bytes, SURE, ends(2))
-}
-
-#[test]
-fn repairs(rt: HostRuntime) -> Result<(), Fail> {
-    let none = "none\n";
-    let sound = "nothing to repair\n";
-    for (program, suite, number, out) in [
-        (LESSER, GREATER, 0, REPAIRED),
-        (
-            LESSER,
-            r#"{"tests":[{"input":"12","output":"1"}]}"#,
-            2,
-            sound,
-        ),
-        (
-            LESSER,
-            r#"{"tests":[{"input":"12","output":"1"},{"input":"12","output":"2"}]}"#,
-            1,
-            none,
-        ),
-        // A condition that reads has no patch.
-        (
-            "int main(void) { if (getchar() < 97) { putchar(121); } return 0; }",
-            r#"{"tests":[{"input":"b","output":"y"}]}"#,
-            1,
-            none,
-        ),
-        // The one repair is the last patch of the second condition.
-        (
-            "int main(void) { int a; a = getchar(); if (a == 48) { putchar(48); } if (a < 53) { putchar(53); } return 0; }",
-            r#"{"tests":[{"input":"5","output":"5"},{"input":"6","output":"5"},{"input":"0","output":"0"}]}"#,
-            0,
-            "int main(void) { int a; a = getchar(); if (a == 48) { putchar(48); } if ((a >= 53)) { putchar(53); } return 0; }",
-        ),
-        // A condition inside another is repaired.
-        (
-            "int main(void) { int a; int b; a = getchar(); b = getchar(); if (a < b) { if (a == 48) { putchar(b); } } else { putchar(a); } return 0; }",
-            r#"{"tests":[{"input":"12","output":"2"},{"input":"01","output":""},{"input":"/1","output":""},{"input":"21","output":"2"}]}"#,
-            0,
-            "int main(void) { int a; int b; a = getchar(); b = getchar(); if (a < b) { if ((a > 48)) { putchar(b); } } else { putchar(a); } return 0; }",
-        ),
-        // The condition of another function is repaired, by the other logical operator.
-        (
-            "int digit(int c) { if (c >= 48 || c <= 57) { return 1; } return 0; } int main(void) { putchar(48 + digit(getchar())); }",
-            r#"{"tests":[{"input":"5","output":"1"},{"input":"a","output":"0"},{"input":"/","output":"0"}]}"#,
-            0,
-            "int digit(int c) { if (((c >= 48) && (c <= 57))) { return 1; } return 0; } int main(void) { putchar(48 + digit(getchar())); }",
-        ),
-        // Of two repairs the first is taken.
-        (
-            "int main(void) { int i; int n; i = 0; n = getchar() - 48; while (i <= n) { putchar(42); i = i + 1; } return 0; }",
-            r#"{"tests":[{"input":"3","output":"***"},{"input":"0","output":""}]}"#,
-            0,
-            "int main(void) { int i; int n; i = 0; n = getchar() - 48; while ((i != n)) { putchar(42); i = i + 1; } return 0; }",
-        ),
-        // A patched program that runs too long passes no test.
-        (
-            "int main(void) { int i; int n; i = 0; n = getchar() - 48; while (i <= n) { putchar(42); i = i + 1; } return 0; }",
-            r#"{"tests":[{"input":"3","output":"***"},{"input":"/","output":""}]}"#,
-            0,
-            "int main(void) { int i; int n; i = 0; n = getchar() - 48; while ((i < n)) { putchar(42); i = i + 1; } return 0; }",
-        ),
-    ] {
-        let want = Want {
-            number,
-            out,
-            err: "",
-        };
-        let bytes = Bytes {
-            program: program.as_bytes(),
-            suite: suite.as_bytes(),
-        };
-        call(&rt, rt.alloc(), LINE, bytes, SURE, want)?;
-    }
-    Ok(())
+    call(&rt, rt.alloc(), LINE, bytes, SURE, FINDS_NOTHING)
 }
 
 #[test]

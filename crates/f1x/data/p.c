@@ -1,12 +1,11 @@
+#include <stdio.h>
 int main(void) {
-    int a;
-    int b;
-    a = getchar();
-    b = getchar();
-    if (a < b) {
-        putchar(a);
-    } else {
-        putchar(b);
-    }
+    int a, b;
+    scanf("%d", &a);
+    scanf("%d", &b);
+    if (a < b)
+        printf("%d\n", a);
+    else
+        printf("%d\n", b);
     return 0;
 }

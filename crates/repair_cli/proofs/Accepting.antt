@@ -1,12 +1,12 @@
 -- What a source states is the only thing that it states: its tokens, its tree and its first fault.
-use Rattle.std.proofs.Common.{◌≡◌, ◌≢◌, ℕ, ◌<◌, ◌≤◌, Bool, true, false, List, length, Result, Ok, Err, refl, sym, ap, subst, ◌∙◌, arith}
+use Rattle.std.proofs.Common.{◌≡◌, ◌≢◌, ℕ, List, length, Ok, Err, refl, sym, ap, subst, ◌∙◌, arith}
 use Rattle.c_tree.specs.Tree.{Outer}
 use Rattle.c_lex.specs.Tokens.{Lexes}
 use Rattle.c_lex.specs.declared.fault.LexFault.{LexFault}
 use Rattle.c_lex.proofs.Cutting.{one_outcome}
 use Rattle.c_grammar.specs.Grammar.{Tokens}
 use Rattle.c_grammar.specs.Programs.{Derives}
-use Rattle.c_grammar.specs.Judge.{Verdict, good, unexpected_at, too_deep_at, Judged, judge}
+use Rattle.c_grammar.specs.Judge.{Verdict, good, unexpected_at, too_deep_at, Judged}
 use Rattle.c_grammar.proofs.TooDeep.{passes_deep}
 use Rattle.c_grammar.proofs.Verdicts.{one, judge_is}
 use Rattle.c_parse.specs.Results.{place_of, IsFirstFault}
@@ -19,12 +19,11 @@ use Rattle.c_types.specs.Programs.{program_faults}
 use Rattle.c_types.specs.Slots.{resolved}
 use Rattle.c_types.proofs.OneFirst as kind
 use Rattle.repair_job.specs.Patches.{HasFewLocations}
-use Rattle.repair_cli.specs.Accepted.{IsCut, IsRead, IsWellTyped, IsRunnable, IsProgram}
-use Rattle.repair_cli.specs.Literals.{has_literal}
-use Rattle.repair_cli.specs.Faults.{IsFault, Refuses, fault_message}
+use Rattle.repair_cli.specs.Accepted.{IsRead, IsWellTyped, IsProgram}
+use Rattle.repair_cli.specs.Faults.{IsFault, fault_message}
 use Rattle.repair_cli.specs.Laws.{OneProgram, OneFault, OneRefusal, NeverBoth}
 use Rattle.repair_cli.specs.declared.fault.ProgramFault.{ProgramFault}
-use Rattle.repair_cli.specs.declared.fault.ProgramFault.TheVariants.{TooLong, Lex, Parse, Kinds, Unsupported, NoMemory}
+use Rattle.repair_cli.specs.declared.fault.ProgramFault.TheVariants.{Lex, Parse, Kinds, Unsupported}
 
 -- the tokens of a source are the only ones
 pub one_cut : (bytes : List ℕ) (ts us : Tokens) → Lexes bytes (Ok ts) → Lexes bytes (Ok us) → ts ≡ us
@@ -83,14 +82,13 @@ no_kind : (end : ℕ) (tree : List Outer) (f : TypeFault) → f ≢ kinds.NoMemo
     → CausedBy f (program_faults tree end) → ⊥
 no_kind end tree f n typed x = kind.no_cause f n (subst (CausedBy f) typed x)
 
--- a source that has a tree has no fault but of the tree's kinds, of its string literals and of its size
-data OfTree (bytes : List ℕ) (tree : List Outer) (r : IsRead bytes tree) : ProgramFault → Type 0 where
+-- a source that has a tree has no fault but of the tree's kinds and of its size
+data OfTree (bytes : List ℕ) (tree : List Outer) : ProgramFault → Type 0 where
   kinds_of : (f : TypeFault) → f ≢ kinds.NoMemory → CausedBy f (program_faults tree (length bytes))
-      → OfTree bytes tree r (Kinds f)
-  literal_of : IsWellTyped (length bytes) tree → has_literal r.tokens ≡ true → OfTree bytes tree r Unsupported
-  size_of : IsWellTyped (length bytes) tree → ¬ HasFewLocations (resolved tree) → OfTree bytes tree r Unsupported
+      → OfTree bytes tree (Kinds f)
+  size_of : IsWellTyped (length bytes) tree → ¬ HasFewLocations (resolved tree) → OfTree bytes tree Unsupported
 
-tree_fault : (bytes : List ℕ) (tree : List Outer) (f : ProgramFault) (r : IsRead bytes tree) → IsFault bytes f → OfTree bytes tree r f
+tree_fault : (bytes : List ℕ) (tree : List Outer) (f : ProgramFault) (r : IsRead bytes tree) → IsFault bytes f → OfTree bytes tree f
 tree_fault bytes tree _ r (IsFault.too_long a) = let s = r.cut.short in absurd (omega (arith, a, s))
 tree_fault bytes tree _ r (IsFault.of_text f n s a) = absurd (no_tokens bytes r.tokens f r.cut.cut a)
 tree_fault bytes tree _ r (IsFault.of_tokens f ts n c x) =
@@ -98,37 +96,28 @@ tree_fault bytes tree _ r (IsFault.of_tokens f ts n c x) =
     absurd (no_cause (length bytes) ts tree f n (subst (λ us. Derives 64 us tree) same r.derived) x)
 tree_fault bytes tree _ r (IsFault.of_kinds f t n read x) =
     kinds_of f n (same_causes (length bytes) f t tree (one_tree bytes t tree read r) x)
-tree_fault bytes tree _ r (IsFault.of_literal t read typed some) =
-    literal_of (subst (IsWellTyped (length bytes)) (one_tree bytes t tree read r) typed)
-    (subst (λ ts. has_literal ts ≡ true) (one_cut bytes read.tokens r.tokens read.cut.cut r.cut.cut) some)
 tree_fault bytes tree _ r (IsFault.of_size t read typed many) =
     let same = one_tree bytes t tree read r in
     size_of (subst (IsWellTyped (length bytes)) same typed)
     (subst (λ u. ¬ HasFewLocations (resolved u)) same many)
 
 -- two faults of one tree are one
-one_of_tree : (bytes : List ℕ) (tree : List Outer) (r : IsRead bytes tree) (f g : ProgramFault) → OfTree bytes tree r f → OfTree bytes tree r g → f ≡ g
-one_of_tree bytes tree r _ _ (kinds_of f n x) (kinds_of g m y) = ap (λ h. Kinds h) (kind.one_cause (program_faults tree (length bytes)) f g n m x y)
-one_of_tree bytes tree r _ _ (kinds_of f n x) (literal_of typed some) = absurd (no_kind (length bytes) tree f n typed x)
-one_of_tree bytes tree r _ _ (kinds_of f n x) (size_of typed many) = absurd (no_kind (length bytes) tree f n typed x)
-one_of_tree bytes tree r _ _ (literal_of typed some) (kinds_of f n x) = absurd (no_kind (length bytes) tree f n typed x)
-one_of_tree bytes tree r _ _ (literal_of a b) (literal_of c d) = refl
-one_of_tree bytes tree r _ _ (literal_of a b) (size_of c d) = refl
-one_of_tree bytes tree r _ _ (size_of typed many) (kinds_of f n x) = absurd (no_kind (length bytes) tree f n typed x)
-one_of_tree bytes tree r _ _ (size_of a b) (literal_of c d) = refl
-one_of_tree bytes tree r _ _ (size_of a b) (size_of c d) = refl
+one_of_tree : (bytes : List ℕ) (tree : List Outer) (f g : ProgramFault) → OfTree bytes tree f → OfTree bytes tree g → f ≡ g
+one_of_tree bytes tree _ _ (kinds_of f n x) (kinds_of g m y) =
+    ap (λ h. Kinds h) (kind.one_cause (program_faults tree (length bytes)) f g n m x y)
+one_of_tree bytes tree _ _ (kinds_of f n x) (size_of typed many) = absurd (no_kind (length bytes) tree f n typed x)
+one_of_tree bytes tree _ _ (size_of typed many) (kinds_of f n x) = absurd (no_kind (length bytes) tree f n typed x)
+one_of_tree bytes tree _ _ (size_of a b) (size_of c d) = refl
 
 -- the first fault of a source is one, where one of the two is of its tree
 one_with_tree : (bytes : List ℕ) (tree : List Outer) (f g : ProgramFault) → IsRead bytes tree → IsFault bytes f → IsFault bytes g → f ≡ g
-one_with_tree bytes tree f g r a b = one_of_tree bytes tree r f g (tree_fault bytes tree f r a) (tree_fault bytes tree g r b)
+one_with_tree bytes tree f g r a b = one_of_tree bytes tree f g (tree_fault bytes tree f r a) (tree_fault bytes tree g r b)
 
 -- the first fault of a source is one
 pub one_fault : OneFault
 one_fault bytes f _ a (IsFault.of_kinds g t n r x) = one_with_tree bytes t f (Kinds g) r a (IsFault.of_kinds g t n r x)
-one_fault bytes f _ a (IsFault.of_literal t r x y) = one_with_tree bytes t f Unsupported r a (IsFault.of_literal t r x y)
 one_fault bytes f _ a (IsFault.of_size t r x y) = one_with_tree bytes t f Unsupported r a (IsFault.of_size t r x y)
 one_fault bytes _ g (IsFault.of_kinds f t n r x) b = one_with_tree bytes t (Kinds f) g r (IsFault.of_kinds f t n r x) b
-one_fault bytes _ g (IsFault.of_literal t r x y) b = one_with_tree bytes t Unsupported g r (IsFault.of_literal t r x y) b
 one_fault bytes _ g (IsFault.of_size t r x y) b = one_with_tree bytes t Unsupported g r (IsFault.of_size t r x y) b
 one_fault bytes _ _ (IsFault.too_long a) (IsFault.too_long b) = refl
 one_fault bytes _ _ (IsFault.too_long a) (IsFault.of_text g n s b) = absurd (omega (arith, a, s))
@@ -151,9 +140,8 @@ one_refusal name bytes t u a b =
     a.message ∙ ap (fault_message name bytes) (one_fault bytes a.fault b.fault a.is_first b.is_first) ∙ sym b.message
 
 -- a source that states a program has no fault of its tree
-no_fault : (bytes : List ℕ) (p : List Outer) (f : ProgramFault) (i : IsProgram bytes p) → OfTree bytes i.tree i.read f → ⊥
+no_fault : (bytes : List ℕ) (p : List Outer) (f : ProgramFault) (i : IsProgram bytes p) → OfTree bytes i.tree f → ⊥
 no_fault bytes p _ i (kinds_of f n x) = no_kind (length bytes) i.tree f n i.runnable.typed x
-no_fault bytes p _ i (literal_of typed some) = let none = i.plain in absurd (cc)
 no_fault bytes p _ i (size_of typed many) = many (subst HasFewLocations i.runnable.is_resolved i.runnable.few)
 
 -- a source that states a program has no fault

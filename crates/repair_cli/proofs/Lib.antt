@@ -6,5 +6,7 @@ pub mod Pieces
 pub mod Places
 pub mod Refusing
 pub mod Searching
+pub mod Spellings
+pub mod SuiteTests
 pub mod Suites
 pub mod Steps

@@ -1,5 +1,5 @@
 -- The message of a refused source is that of its first fault, and the fault lies in the source.
-use Rattle.std.proofs.Common.{◌≡◌, ◌≢◌, ℕ, ◌<◌, ◌≤◌, List, length, sym, subst, refl}
+use Rattle.std.proofs.Common.{◌≡◌, ℕ, ◌≤◌, List, length, sym, subst}
 use Rattle.std.specs.Prelude.{IfSome}
 use Rattle.fx_io.specs.Ends.{IsLonger}
 use Rattle.fx_io.specs.Held.{IsContent}
@@ -19,16 +19,17 @@ use Rattle.c_types.specs.FaultWords as checker
 use Rattle.c_types.specs.Least.{Causes as CausedBy}
 use Rattle.c_types.specs.Programs.{program_faults}
 use Rattle.c_types.specs.declared.fault.TypeFault.{TypeFault}
-use Rattle.c_types.specs.declared.fault.TypeFault.TheVariants as kinds
 use Rattle.c_types.proofs.Placed as checking
 use Rattle.repair_cli.specs.Accepted.{IsRead}
 use Rattle.repair_cli.specs.Faults.{IsFault, Refuses, fault_place, fault_words, fault_message}
-use Rattle.repair_cli.specs.Parts.{IsRefusal, GivesNoProgram}
+use Rattle.repair_cli.specs.Limits.{source_limit, suite_limit}
+use Rattle.repair_cli.specs.Parts.{IsRefusal, IsSuiteRefusal, GivesNoProgram, GivesNoSuite}
 use Rattle.repair_cli.specs.Source.{File}
+use Rattle.repair_cli.specs.SuiteFaults.{IsSuiteFault, StatesNoSuite, suite_message}
 use Rattle.repair_cli.specs.Texts.{said_of}
 use Rattle.repair_cli.specs.declared.fault.ProgramFault.{ProgramFault}
-use Rattle.repair_cli.specs.declared.fault.ProgramFault.TheVariants.{TooLong, Lex, Parse, Kinds, Unsupported, NoMemory}
-use Rattle.repair_cli.specs.declared.limits.TheConstants.{SOURCE_LIMIT}
+use Rattle.repair_cli.specs.declared.fault.ProgramFault.TheVariants.{TooLong}
+use Rattle.repair_cli.specs.declared.fault.TestsFault.TheVariants as suite
 use Rattle.repair_cli.specs.declared.status.Status.{Status}
 use Rattle.repair_cli.specs.declared.status.Status.TheVariants as status
 
@@ -56,7 +57,6 @@ fault_within bytes _ (IsFault.of_text f n s a) = lex_within (length bytes) f (ou
 fault_within bytes _ (IsFault.of_tokens f ts n c x) =
     parse_within (length bytes) f (causes_placed (length bytes) ts f (spans_rise bytes ts c.cut) x)
 fault_within bytes _ (IsFault.of_kinds f t n r x) = kind_within bytes t f r x
-fault_within bytes _ (IsFault.of_literal t r x y) = tt
 fault_within bytes _ (IsFault.of_size t r x y) = tt
 
 -- a refusal of a program with the message of its first fault
@@ -67,7 +67,7 @@ is_refusal name bytes f s text first is same =
     subst (λ s. IsRefusal name bytes s text) (sym is) refuses
 
 -- a file that is too long gives no program
-pub long_gives : (file : File) (s : Status) (text : List ℕ) → IsLonger file.held file.name SOURCE_LIMIT → s ≡ status.ProgramRefused → text ≡ said_of file.name (fault_words TooLong)
+pub long_gives : (file : File) (s : Status) (text : List ℕ) → IsLonger file.held file.name source_limit → s ≡ status.ProgramRefused → text ≡ said_of file.name (fault_words TooLong)
     → GivesNoProgram file s text
 long_gives file s text long is same =
     let refuses : Refuses file.name long.0 text = record { fault = TooLong; is_first = IsFault.too_long long.2; message = same } in
@@ -78,3 +78,20 @@ pub refused_gives : (file : File) (bytes : List ℕ) (s : Status) (text : List �
 refused_gives file bytes status.ProgramRefused text content why = (bytes, content, why)
 refused_gives file bytes status.NoMemory text content why = why
 refused_gives file bytes _ text content why = absurd why
+
+-- ---- suites
+
+-- a file that is too long gives no suite
+pub long_gives_none : (file : File) (s : Status) (text : List ℕ) → IsLonger file.held file.name suite_limit → s ≡ status.SuiteRefused
+    → text ≡ suite_message file.name suite.TooLong → GivesNoSuite file s text
+long_gives_none file s text long is same =
+    let states : StatesNoSuite file.name long.0 text =
+    record { fault = suite.TooLong; is_first = IsSuiteFault.too_long long.2; message = same } in
+    subst (λ s. GivesNoSuite file s text) (sym is) (long.0, long.1, states)
+
+-- a file whose bytes are refused gives no suite
+pub refused_gives_none : (file : File) (bytes : List ℕ) (s : Status) (text : List ℕ) → IsContent file.held file.name bytes
+    → IsSuiteRefusal file.name bytes s text → GivesNoSuite file s text
+refused_gives_none file bytes status.SuiteRefused text content why = (bytes, content, why)
+refused_gives_none file bytes status.NoMemory text content why = why
+refused_gives_none file bytes _ text content why = absurd why

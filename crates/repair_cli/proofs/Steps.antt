@@ -1,5 +1,5 @@
 -- One step of the work after another.
-use Rattle.std.proofs.Common.{◌≡◌, ℕ, ◌≤◌, ◌⊎◌, List, ap, subst, sym, inl, inr, refl, arith, ◌∙◌}
+use Rattle.std.proofs.Common.{◌≡◌, ℕ, ◌≤◌, ◌⊎◌, List, subst, sym, inl, inr}
 use Rattle.std.specs.Prelude.{Some, Option, unwrap_or}
 use Rattle.fx_io.specs.Faults.{Rose}
 use Rattle.fx_io.specs.Held.{Lacks}
@@ -17,7 +17,7 @@ use Rattle.repair_cli.specs.Sinks.{Seen}
 use Rattle.repair_cli.specs.Source.{Files, File, Source, file_in, Asks, States, HoldsProgram, HoldsSuite, Cause}
 use Rattle.repair_cli.specs.declared.status.Status.{Status}
 use Rattle.repair_cli.specs.declared.status.Status.TheVariants as status
-use Rattle.repair_cli.proofs.Commands.{limit_in}
+use Rattle.repair_cli.proofs.Commands.{limit_range}
 use Rattle.repair_cli.proofs.Suites.{stated_range}
 
 -- the program was not had
@@ -43,7 +43,7 @@ suite_fails_here words held f0 f1 f2 asked bytes tree status.ReadFault text vali
     let rose : (Rose f1 f2 ⊎ Lacks held asked.suite) → Rose f0 f2 ⊎ Lacks held asked.suite = λ x. elim x [ inl r ↦ inl (Rose-later f0 f1 f2 later r) | inr l ↦ inr l ] in
     inr (record { asked = asked; valid = valid; program = (bytes, tree, holds); unread = rose why.0; message = why.1 })
 suite_fails_here words held f0 f1 f2 asked bytes tree status.SuiteRefused text valid holds later why =
-    record { asked = asked; valid = valid; program = (bytes, tree, holds); refused = why.0; message = why.1 }
+    record { asked = asked; valid = valid; program = (bytes, tree, holds); refused = why }
 suite_fails_here words held f0 f1 f2 asked bytes tree status.NoMemory text valid holds later why = why
 suite_fails_here words held f0 f1 f2 asked bytes tree _ text valid holds later why = absurd why
 
@@ -71,9 +71,9 @@ job_states source asked job bytes tree tests limit valid program suite b t u l m
     subst (λ (x : List Outer). HoldsProgram (file_in source asked.program) job.source x) (sym t) from_bytes in
     let judged : HoldsSuite (file_in source asked.suite) job.tests limit =
     subst (λ (x : List Test). HoldsSuite (file_in source asked.suite) x limit) (sym u) suite in
-    let own : job.limit ≡ limit = l ∙ limit_in source.words asked limit valid in (
+    let own = stated_range suite.0 (record { tests = tests; limit = limit }) suite.2.states in (
       record { asked = asked; valid = valid; program = held; limit = limit; suite = judged; limit_is = l; patches_are = m },
-      record { limit = subst IsLimit (sym own) (stated_range suite.0 (record { tests = tests; limit = limit }) suite.2.states); few = held.1.runnable.few },
+      record { limit = subst IsLimit (sym l) (limit_range source.words asked limit valid own); few = held.1.runnable.few },
     )
 
 -- the text of the answer was written, or its write failed

@@ -1,9 +1,9 @@
 -- The limit that a suite states is one that a run can have.
-use Rattle.std.proofs.Common.{◌≡◌, ℕ, ◌≤◌, Bool, true, false, ◌||◌, ◌==◌, nat_lt, List, Option, Some, None, Result, Ok, Err, refl, ap, subst, arith}
+use Rattle.std.proofs.Common.{◌≡◌, ℕ, Bool, true, false, ◌||◌, ◌==◌, nat_lt, List, Option, Some, None, Result, Ok, Err, refl, ap, subst, arith}
 use Rattle.std.specs.Prelude.{if◌then◌else◌, codes}
 use Rattle.std.proofs.lemmas.Bool.Decides.{nat_tests}
 use Rattle.c_stdio.specs.declared.test.Test.{Test}
-use Rattle.test_suite.specs.Suite.{and_then, mapped, max_limit, default_limit, valid_limit, limit_in, list_in, tests_from, has, number_at, value_in, document, Stated, stated_in, stated}
+use Rattle.test_suite.specs.Suite.{and_then, mapped, default_limit, valid_limit, limit_in, list_in, tests_from, has, number_at, value_in, document, Stated, stated_in, stated}
 use Rattle.test_suite.specs.declared.fault.SuiteFault.{SuiteFault}
 use Rattle.test_suite.specs.declared.fault.SuiteFault.TheVariants.{BadLimit}
 use Rattle.repair_cli.specs.Jobs.{IsLimit}

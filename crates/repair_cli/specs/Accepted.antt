@@ -1,5 +1,5 @@
 -- Which programs and suites are accepted.
-use Rattle.std.specs.Prelude.{◌≡◌, ◌⊎◌, ℕ, ◌<◌, ◌≤◌, false, List, [], length, Ok, Err}
+use Rattle.std.specs.Prelude.{◌≡◌, ℕ, ◌≤◌, List, [], length, Ok}
 use Rattle.c_tree.specs.Tree.{Outer}
 use Rattle.c_lex.specs.Tokens.{Lexes}
 use Rattle.c_grammar.specs.Grammar.{Tokens}
@@ -8,14 +8,12 @@ use Rattle.c_types.specs.Programs.{program_faults}
 use Rattle.c_types.specs.Slots.{resolved}
 use Rattle.c_stdio.specs.declared.test.Test.{Test}
 use Rattle.test_suite.specs.Suite.{stated}
-use Rattle.test_suite.specs.declared.fault.SuiteFault.{SuiteFault}
 use Rattle.repair_job.specs.Patches.{HasFewLocations}
-use Rattle.repair_cli.specs.Literals.{has_literal}
-use Rattle.repair_cli.specs.declared.limits.TheConstants.{SOURCE_LIMIT, SUITE_LIMIT}
+use Rattle.repair_cli.specs.Limits.{source_limit, suite_limit}
 
 -- a source is no longer than one may be
 abbrev pub IsShort : List ℕ → Type 0
-IsShort bytes = length bytes ≤ SOURCE_LIMIT
+IsShort bytes = length bytes ≤ source_limit
 
 -- a source has these tokens: it is short, and is cut into them
 pub record IsCut (bytes : List ℕ) (tokens : Tokens) : Type 0 where
@@ -39,20 +37,13 @@ pub record IsRunnable (end : ℕ) (tree program : List Outer) : Type 0 where
   pub is_resolved : program ≡ resolved tree
   pub few : HasFewLocations program
 
--- A source states a program: it has a tree that is the program. It has no string literal: the functions that take one,
--- `printf` and `scanf`, can't be run yet.
+-- a source states a program: it has a tree that is the program
 pub record IsProgram (bytes : List ℕ) (program : List Outer) : Type 0 where
   pub tree : List Outer
   pub read : IsRead bytes tree
-  pub plain : has_literal read.tokens ≡ false
   pub runnable : IsRunnable (length bytes) tree program
 
 -- these bytes, which are not too many, state these tests, each of which may take so many units
 pub record IsSuite (bytes : List ℕ) (tests : List Test) (limit : ℕ) : Type 0 where
-  pub short : length bytes ≤ SUITE_LIMIT
+  pub short : length bytes ≤ suite_limit
   pub states : stated bytes ≡ Ok (record { tests = tests; limit = limit })
-
--- these bytes state no tests: they are too many, or there is a first refusal
-abbrev pub StatesNoSuite : List ℕ → Type 0
-StatesNoSuite bytes =
-    (SUITE_LIMIT < length bytes) ⊎ ((fault : SuiteFault) × (stated bytes ≡ Err fault))

@@ -1,5 +1,5 @@
 -- Why a source is refused: its first fault, with its place and its words, and the message that these give.
-use Rattle.std.specs.Prelude.{◌≡◌, ◌≢◌, ℕ, ◌<◌, true, List, length, Option, Some, None, Ok, Err, option_map, codes}
+use Rattle.std.specs.Prelude.{◌≡◌, ◌≢◌, ℕ, ◌<◌, List, length, Option, None, Err, option_map, codes}
 use Rattle.c_tree.specs.Tree.{Outer}
 use Rattle.c_lex.specs.declared.fault.LexFault.{LexFault}
 use Rattle.c_lex.specs.declared.fault.LexFault.TheVariants as lex
@@ -18,11 +18,10 @@ use Rattle.c_types.specs.Programs.{program_faults}
 use Rattle.c_types.specs.Slots.{resolved}
 use Rattle.repair_job.specs.Patches.{HasFewLocations}
 use Rattle.repair_cli.specs.Accepted.{IsShort, IsCut, IsRead, IsWellTyped}
-use Rattle.repair_cli.specs.Literals.{has_literal}
+use Rattle.repair_cli.specs.Limits.{source_limit}
 use Rattle.repair_cli.specs.Texts.{position_of, faulty}
 use Rattle.repair_cli.specs.declared.fault.ProgramFault.{ProgramFault}
 use Rattle.repair_cli.specs.declared.fault.ProgramFault.TheVariants.{TooLong, Lex, Parse, Kinds, Unsupported, NoMemory}
-use Rattle.repair_cli.specs.declared.limits.TheConstants.{SOURCE_LIMIT}
 
 -- the place of a fault in the source, if it has one
 abbrev pub fault_place : ProgramFault → Option ℕ
@@ -44,14 +43,12 @@ fault_words NoMemory = codes "out of memory"
 
 -- the first fault of a source
 pub data IsFault (bytes : List ℕ) : ProgramFault → Type 0 where
-  too_long : SOURCE_LIMIT < length bytes → IsFault bytes TooLong
+  too_long : source_limit < length bytes → IsFault bytes TooLong
   of_text : (f : LexFault) → f ≢ lex.NoMemory → IsShort bytes → Lexes bytes (Err f) → IsFault bytes (Lex f)
   of_tokens : (f : ParseFault) (tokens : Tokens) → f ≢ parse.NoMemory
       → IsCut bytes tokens → IsFirstFault (length bytes) tokens f → IsFault bytes (Parse f)
   of_kinds : (f : TypeFault) (tree : List Outer) → f ≢ kinds.NoMemory
       → IsRead bytes tree → CausedBy f (program_faults tree (length bytes)) → IsFault bytes (Kinds f)
-  of_literal : (tree : List Outer) (read : IsRead bytes tree) → IsWellTyped (length bytes) tree
-      → has_literal read.tokens ≡ true → IsFault bytes Unsupported
   of_size : (tree : List Outer) → IsRead bytes tree → IsWellTyped (length bytes) tree
       → ¬ HasFewLocations (resolved tree) → IsFault bytes Unsupported
 

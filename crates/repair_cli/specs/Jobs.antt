@@ -3,6 +3,7 @@ use Rattle.std.specs.Prelude.{ℕ, ◌≤◌}
 use Rattle.c_types.specs.Shown.{tree_of}
 use Rattle.repair_job.specs.Job as plain
 use Rattle.repair_job.specs.Patches.{HasFewLocations}
+use Rattle.repair_cli.specs.Limits.{most_units}
 use Rattle.repair_cli.specs.declared.job.Job.{Job}
 
 -- the job
@@ -19,7 +20,7 @@ job_of j =
 -- so many units a run may take
 pub record IsLimit (units : ℕ) : Type 0 where
   pub some : 1 ≤ units
-  pub most : units ≤ 10000000
+  pub most : units ≤ most_units
 
 -- the tests can be run, and the patches can be listed
 pub record CanBeDone (job : plain.Job) : Type 0 where

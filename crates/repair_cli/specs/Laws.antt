@@ -1,15 +1,20 @@
--- That there is one right answer at most, or one refusal; and that what a call answers is settled by its words and files.
+-- That there is one right answer at most, or one refusal; that what a call answers is settled by its words and files; and
+-- that what is accepted is answered.
 use Rattle.std.specs.Prelude.{◌≡◌, ℕ, List, Some}
+use Rattle.fx_io.specs.Faults.{Rose}
 use Rattle.c_tree.specs.Tree.{Outer}
+use Rattle.c_stdio.specs.declared.test.Test.{Test}
+use Rattle.repair_job.specs.Job.{Job}
 use Rattle.repair_job.specs.declared.answer.Answer.{Answer}
-use Rattle.repair_cli.specs.Accepted.{IsProgram}
+use Rattle.repair_cli.specs.Accepted.{IsProgram, IsSuite}
 use Rattle.repair_cli.specs.Ends.{IsAnswer, Ends}
 use Rattle.repair_cli.specs.Faults.{IsFault, Refuses}
 use Rattle.repair_cli.specs.Sinks.{Seen, Appends}
-use Rattle.repair_cli.specs.Source.{Files, Source}
+use Rattle.repair_cli.specs.Source.{Files, Source, States}
+use Rattle.repair_cli.specs.SuiteFaults.{StatesNoSuite}
 use Rattle.repair_cli.specs.declared.fault.ProgramFault.{ProgramFault}
 use Rattle.repair_cli.specs.declared.status.Status.{Status}
-use Rattle.repair_cli.specs.declared.status.Status.TheVariants.{ReadFault, WriteFault, NoMemory}
+use Rattle.repair_cli.specs.declared.status.Status.TheVariants.{Patched, Nothing, Sound, ReadFault, WriteFault, NoMemory}
 
 -- a source states one program at most
 abbrev pub OneProgram : Type 0
@@ -26,6 +31,15 @@ OneRefusal = (name bytes t u : List ℕ) → Refuses name bytes t → Refuses na
 -- a source that states a program isn't refused
 abbrev pub NeverBoth : Type 0
 NeverBoth = (name bytes t : List ℕ) (p : List Outer) → IsProgram bytes p → Refuses name bytes t → ⊥
+
+-- a suite is refused with one message at most
+abbrev pub OneSuiteRefusal : Type 0
+OneSuiteRefusal = (name bytes t u : List ℕ) → StatesNoSuite name bytes t → StatesNoSuite name bytes u → t ≡ u
+
+-- bytes that state tests aren't refused as a suite
+abbrev pub NeverBothOfSuite : Type 0
+NeverBothOfSuite = (name bytes t : List ℕ) (tests : List Test) (limit : ℕ) → IsSuite bytes tests limit
+    → StatesNoSuite name bytes t → ⊥
 
 -- these words and files, which are known; the failures don't matter
 abbrev pub given : List (List ℕ) → Files → ℕ → ℕ → Source
@@ -64,3 +78,20 @@ pub record AppendAlike (sink other : Seen) : Type 0 where
 abbrev pub OneEnd : Type 0
 OneEnd = (words : List (List ℕ)) (files : Files) (one other : Settled words files)
     → (one.status ≡ other.status) × AppendAlike one.out other.out × AppendAlike one.err other.err
+
+-- the call gave an answer, or ran out of memory
+abbrev pub IsAnswered : Status → Type 0
+IsAnswered Patched = Unit {0}
+IsAnswered Nothing = Unit {0}
+IsAnswered Sound = Unit {0}
+IsAnswered NoMemory = Unit {0}
+IsAnswered _ = ⊥
+
+-- where the words are a command, and the known files state a program and tests, a call is answered or runs out of memory,
+-- if no count of failures rose, of the files or of a sink
+abbrev pub AcceptedAreAnswered : Type 0
+AcceptedAreAnswered = (words : List (List ℕ)) (files : Files) (m n : ℕ) (job : Job)
+    → States (given words files m n) job
+    → (out err : Seen) (status : Status) → Ends (given words files m n) out err status
+    → ¬ Rose m n → ¬ Rose out.faults out.faults_after → ¬ Rose err.faults err.faults_after
+    → IsAnswered status

@@ -4,12 +4,13 @@ pub mod Ends
 pub mod Faults
 pub mod Jobs
 pub mod Laws
-pub mod Literals
+pub mod Limits
 pub mod Message
 pub mod Numbers
 pub mod Parts
 pub mod Refusal
 pub mod Sinks
 pub mod Source
+pub mod SuiteFaults
 pub mod Texts
 pub mod Words

@@ -1,12 +1,12 @@
 -- What the parts of a call do: reading a file, writing an answer and writing a message.
 use Rattle.std.specs.Prelude.{◌≡◌, ◌≢◌, ◌⊎◌, ℕ, List, []}
 use Rattle.repair_job.specs.declared.answer.Answer.{Answer}
-use Rattle.repair_cli.specs.Accepted.{StatesNoSuite}
 use Rattle.repair_cli.specs.Ends.{status_of_answer}
 use Rattle.repair_cli.specs.Faults.{IsFault, Refuses}
 use Rattle.repair_cli.specs.Sinks.{Seen, Appends, Breaks, AppendsOrBreaks}
 use Rattle.repair_cli.specs.Source.{File, IsUnreadable, HoldsNoProgram, HoldsNoSuite}
-use Rattle.repair_cli.specs.Texts.{bad_suite, cannot_read, cannot_write, no_memory}
+use Rattle.repair_cli.specs.SuiteFaults.{StatesNoSuite}
+use Rattle.repair_cli.specs.Texts.{cannot_read, cannot_write, no_memory}
 use Rattle.repair_cli.specs.declared.fault.ProgramFault.{ProgramFault}
 use Rattle.repair_cli.specs.declared.fault.ProgramFault.TheVariants as fault
 use Rattle.repair_cli.specs.declared.status.Status.{Status}
@@ -31,14 +31,14 @@ GivesNoProgram file _ text = ⊥
 
 -- the refusal of the suite of this name, with these bytes; running out of memory has no cause
 abbrev pub IsSuiteRefusal : List ℕ → List ℕ → Status → List ℕ → Type 0
-IsSuiteRefusal name bytes SuiteRefused text = StatesNoSuite bytes × (text ≡ bad_suite name)
+IsSuiteRefusal name bytes SuiteRefused text = StatesNoSuite name bytes text
 IsSuiteRefusal name bytes NoMemory text = text ≡ no_memory
 IsSuiteRefusal name bytes _ text = ⊥
 
--- why the file gave no suite
+-- why the file gave no suite, by the status, with its message
 abbrev pub GivesNoSuite : File → Status → List ℕ → Type 0
 GivesNoSuite file ReadFault text = IsUnreadable file × (text ≡ cannot_read file.name)
-GivesNoSuite file SuiteRefused text = HoldsNoSuite file × (text ≡ bad_suite file.name)
+GivesNoSuite file SuiteRefused text = HoldsNoSuite file text
 GivesNoSuite file NoMemory text = text ≡ no_memory
 GivesNoSuite file _ text = ⊥
 

@@ -6,10 +6,11 @@ use Rattle.fx_io.specs.Held.{IsContent, Lacks}
 use Rattle.c_tree.specs.Tree.{Outer}
 use Rattle.c_stdio.specs.declared.test.Test.{Test}
 use Rattle.repair_job.specs.Job.{Job}
-use Rattle.repair_cli.specs.Accepted.{IsProgram, IsSuite, StatesNoSuite}
+use Rattle.repair_cli.specs.Accepted.{IsProgram, IsSuite}
 use Rattle.repair_cli.specs.Faults.{Refuses}
+use Rattle.repair_cli.specs.SuiteFaults.{StatesNoSuite}
 use Rattle.repair_cli.specs.Words.{Asked, repair, command_in, words_of}
-use Rattle.repair_cli.specs.Texts.{usage, bad_suite, cannot_read, no_memory}
+use Rattle.repair_cli.specs.Texts.{usage, cannot_read, no_memory}
 use Rattle.repair_cli.specs.declared.status.Status.{Status}
 use Rattle.repair_cli.specs.declared.status.Status.TheVariants.{Patched, Nothing, Sound, Usage, ProgramRefused, SuiteRefused, ReadFault, WriteFault, NoMemory}
 
@@ -51,9 +52,9 @@ HoldsNoProgram file text = (bytes : List ℕ) × IsContent file.held file.name b
 abbrev pub HoldsSuite : File → List Test → ℕ → Type 0
 HoldsSuite file tests limit = (bytes : List ℕ) × IsContent file.held file.name bytes × IsSuite bytes tests limit
 
--- the file states no tests
-abbrev pub HoldsNoSuite : File → Type 0
-HoldsNoSuite file = (bytes : List ℕ) × IsContent file.held file.name bytes × StatesNoSuite bytes
+-- the file states no tests, as this message says
+abbrev pub HoldsNoSuite : File → List ℕ → Type 0
+HoldsNoSuite file text = (bytes : List ℕ) × IsContent file.held file.name bytes × StatesNoSuite file.name bytes text
 
 -- ---- a whole call
 
@@ -114,8 +115,7 @@ pub record RefusesSuite (source : Source) (text : List ℕ) : Type 0 where
   pub asked : Asked
   pub valid : Asks source asked
   pub program : HoldsSomeProgram (file_in source asked.program)
-  pub refused : HoldsNoSuite (file_in source asked.suite)
-  pub message : text ≡ bad_suite asked.suite
+  pub refused : HoldsNoSuite (file_in source asked.suite) text
 
 -- why there is no answer, in the order of the work: the status, with its message
 abbrev pub Cause : Source → Status → List ℕ → Type 0

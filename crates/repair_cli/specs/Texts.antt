@@ -4,7 +4,7 @@ use Rattle.std.specs.List.{count_by, suffix_len}
 
 -- the words are no command
 abbrev pub usage : List ℕ
-usage = codes "usage: f1x repair PROGRAM SUITE\n"
+usage = codes "usage: f1x repair PROGRAM SUITE [--limit=N]\n"
 
 -- the line of a place: 1, and the line feeds before it
 abbrev pub line_of : List ℕ → ℕ → ℕ
@@ -24,16 +24,22 @@ said_of name words = name ++ codes ": " ++ words ++ codes "\n"
 
 -- these words are said of a line and a column in it
 abbrev pub located : List ℕ → ℕ → ℕ → List ℕ → List ℕ
-located name line column words = name ++ codes ":" ++ decimal line ++ codes ":" ++ decimal column ++ codes ": " ++ words ++ codes "\n"
+located name line column words =
+    name ++ codes ":" ++ decimal line ++ codes ":" ++ decimal column ++ codes ": " ++ words ++ codes "\n"
 
 -- these words are said of the file, with the line and the column, if there is a place
 abbrev pub faulty : List ℕ → Option (ℕ × ℕ) → List ℕ → List ℕ
 faulty name None words = said_of name words
 faulty name (Some at) words = located name at.0 at.1 words
 
--- the suite of this name is refused
-abbrev pub bad_suite : List ℕ → List ℕ
-bad_suite name = said_of name (codes "bad suite")
+-- these words are said of a test in it, by its number
+abbrev pub said_of_test : List ℕ → ℕ → List ℕ → List ℕ
+said_of_test name number words = name ++ codes ": test " ++ decimal number ++ codes ": " ++ words ++ codes "\n"
+
+-- these words are said of the suite of this name, or of a test in it, if one is at fault
+abbrev pub faulty_suite : List ℕ → Option ℕ → List ℕ → List ℕ
+faulty_suite name None words = said_of name words
+faulty_suite name (Some number) words = said_of_test name number words
 
 -- the file of this name could not be read
 abbrev pub cannot_read : List ℕ → List ℕ

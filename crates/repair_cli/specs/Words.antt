@@ -1,8 +1,10 @@
--- The words of a call: a command with its options.
-use Rattle.std.specs.Prelude.{ℕ, List, [], ◌∷◌, Bool, false, not, ◌==◌, ◌&&◌, if◌then◌else◌, Option, Some, None, map, String, string_bytes, codes}
+-- The words of a call: a command, two names, and options anywhere after the command, each at most once.
+use Rattle.std.specs.Prelude.{ℕ, List, [], ◌∷◌, length, take, drop, map, filter, filter_map, Bool, false, not, ◌==◌, ◌&&◌, ◌||◌, nat_le, is_some, if◌then◌else◌, Option, Some, None, option_map, String, string_bytes, codes}
 use Rattle.std.specs.declared.alloc.Global.{Global}
-use Rattle.std.specs.Str.{bytes_eq}
-use Rattle.repair_cli.specs.declared.limits.TheConstants.{DEFAULT_PATCHES}
+use Rattle.std.specs.List.{list_all}
+use Rattle.std.specs.Str.{bytes_eq, all_ascii_digits}
+use Rattle.std.specs.Str.Parse.{digits_value}
+use Rattle.repair_cli.specs.Limits.{default_patches, most_units, most_digits}
 use Rattle.repair_cli.specs.declared.words.Options as chosen
 use Rattle.repair_cli.specs.declared.words.Asked as spoken
 use Rattle.repair_cli.specs.declared.words.Command as parsed
@@ -11,6 +13,8 @@ use Rattle.repair_cli.specs.declared.words.Command.TheVariants.{Repair}
 -- the bytes of each word
 abbrev pub words_of : List (String Global) → List (List ℕ)
 words_of words = map (λ word. string_bytes word) words
+
+-- ---- what is asked for
 
 -- what may be said of a repair: how many units each test may take, which goes before what the suite says; and how many
 -- patches are tried at most
@@ -28,25 +32,83 @@ pub record Asked : Type 0 where
 pub data Command : Type 0 where
   repair : Asked → Command
 
--- nothing is said
-abbrev pub no_options : Options
-no_options = record { limit = None; patches = DEFAULT_PATCHES }
+-- ---- numbers
 
--- neither empty nor beginning with `-`
-abbrev pub is_name : List ℕ → Bool
-is_name [] = false
-is_name (first ∷ rest) = not (first == 45)
+-- one to ten decimal digits; zeros may stand first
+abbrev pub is_numeral : List ℕ → Bool
+is_numeral text = nat_le 1 (length text) && nat_le (length text) most_digits && all_ascii_digits text
 
--- the repair of these two, where they are names and the command is `repair`
-abbrev pub repair_of : List ℕ → List ℕ → List ℕ → Option Command
-repair_of word program suite =
-    if bytes_eq word (codes "repair") && is_name program && is_name suite
-    then Some (repair (record { program = program; suite = suite; options = no_options })) else None
+-- from 1 to this
+abbrev pub is_within : ℕ → ℕ → Bool
+is_within most number = nat_le 1 number && nat_le number most
 
--- the command that the words are: `repair` and two names
+-- the number from 1 to this that a text is
+abbrev pub number_to : ℕ → List ℕ → Option ℕ
+number_to most text =
+    if is_numeral text && is_within most (digits_value 10 text) then Some (digits_value 10 text) else None
+
+-- ---- options
+
+-- an option begins with `-`
+abbrev pub is_option : List ℕ → Bool
+is_option [] = false
+is_option (first ∷ rest) = first == 45
+
+-- what stands after this spelling in a word that begins with it
+abbrev pub after : List ℕ → List ℕ → Option (List ℕ)
+after spelling word =
+    if bytes_eq (take (length spelling) word) spelling then Some (drop (length spelling) word) else None
+
+-- the texts that words give the option of this spelling
+abbrev pub given : List ℕ → List (List ℕ) → List (List ℕ)
+given spelling words = filter_map (after spelling) words
+
+-- the number, from 1 to this, of an option that is given at most once
+abbrev pub number_given : ℕ → List (List ℕ) → Option (Option ℕ)
+number_given most [] = Some None
+number_given most (text ∷ []) = option_map Some (number_to most text)
+number_given most _ = None
+
+-- how many units each test may take
+abbrev pub limit_spelling : List ℕ
+limit_spelling = codes "--limit="
+
+-- the word is no option, or one of a repair
+abbrev pub is_known : List ℕ → Bool
+is_known word = not (is_option word) || is_some (after limit_spelling word)
+
+-- the options with this limit, if one is given
+abbrev pub with_limit : Option ℕ → Options
+with_limit limit = record { limit = limit; patches = default_patches }
+
+-- the options among the words, if each is one of a repair
+abbrev pub options_in : List (List ℕ) → Option Options
+options_in words =
+    if list_all is_known words then option_map with_limit (number_given most_units (given limit_spelling words))
+    else None
+
+-- ---- names and commands
+
+-- the words that are no options
+abbrev pub names : List (List ℕ) → List (List ℕ)
+names words = filter (λ word. not (is_option word)) words
+
+-- just two names, neither of which is empty
+abbrev pub two : List (List ℕ) → Option (List ℕ × List ℕ)
+two ((a ∷ program) ∷ (b ∷ suite) ∷ []) = Some (a ∷ program, b ∷ suite)
+two _ = None
+
+-- the repair that two names and options ask for
+abbrev pub repair_of : Option (List ℕ × List ℕ) → Option Options → Option Command
+repair_of (Some both) (Some options) =
+    Some (repair (record { program = both.0; suite = both.1; options = options }))
+repair_of _ _ = None
+
+-- the command that the words are: `repair`, and then two names and options, in any order
 abbrev pub command_in : List (List ℕ) → Option Command
-command_in (word ∷ program ∷ suite ∷ []) = repair_of word program suite
-command_in _ = None
+command_in [] = None
+command_in (word ∷ rest) =
+    if bytes_eq word (codes "repair") then repair_of (two (names rest)) (options_in rest) else None
 
 -- ---- what contracts see of commands
 

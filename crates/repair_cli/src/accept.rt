@@ -5,13 +5,12 @@ ghost use Rattle.c_parse.specs.declared.fault.ParseFault.TheVariants as parse;
 ghost use Rattle.c_types.specs.Shown.{tree_of};
 ghost use Rattle.c_types.specs.declared.fault.TypeFault.TheVariants as kinds;
 ghost use Rattle.repair_cli.specs.Accepted.{IsProgram, IsShort};
-ghost use Rattle.repair_cli.specs.Literals.{is_literal as literal, has_literal as some_literal};
 ghost use Rattle.repair_cli.specs.Parts.{IsFaultUnless};
 ghost use Rattle.repair_cli.specs.declared.fault.ProgramFault.TheVariants.{Lex, Parse, Kinds, NoMemory};
 
 use crate::fault::ProgramFault;
 use crate::tried::has_few_locations;
-use c_lex::{LexFault, Token, TokenKind, lex};
+use c_lex::{LexFault, lex};
 use c_parse::{ParseFault, parse};
 use c_types::{TypeFault, Typed, check};
 use std::alloc::Global;
@@ -38,9 +37,6 @@ pub(crate) fn accept(alloc: Global, bytes: &[u8]) -> Result<Typed, ProgramFault>
         Ok(program) => program,
         Err(fault) => return Err(of_kinds(fault)),
     };
-    if has_literal(&tokens) {
-        return Err(ProgramFault::Unsupported);
-    }
     let few = match has_few_locations(alloc, &program) {
         Ok(few) => few,
         Err(_) => return Err(ProgramFault::NoMemory),
@@ -49,28 +45,6 @@ pub(crate) fn accept(alloc: Global, bytes: &[u8]) -> Result<Typed, ProgramFault>
         return Err(ProgramFault::Unsupported);
     }
     Ok(program)
-}
-
-// Whether the token is a string literal.
-fn is_literal(token: &Token) -> bool
-    ensures { result ≡ literal token.now.0 }
-{
-    match &token.kind {
-        TokenKind::Str(_) => true,
-        _ => false,
-    }
-}
-
-// Whether some token is a string literal.
-fn has_literal(tokens: &[Token]) -> bool
-    ensures { result ≡ some_literal tokens.now }
-{
-    for token in tokens {
-        if is_literal(token) {
-            return true;
-        }
-    }
-    false
 }
 
 // The fault of a program whose text has this one.

@@ -1,10 +1,12 @@
-//! Why a source gives no program.
+//! Why a source gives no program, and why a file gives no suite.
 ghost use Rattle.std.specs.Prelude.{◌≡◌};
 ghost use Rattle.repair_cli.specs.Faults.{fault_place, fault_words};
+ghost use Rattle.repair_cli.specs.SuiteFaults.{fault_test, fault_words as suite_words};
 
 use c_lex::LexFault;
 use c_parse::ParseFault;
 use c_types::TypeFault;
+use test_suite::SuiteFault;
 
 /// Why a source gives no program.
 #[derive(Clone, Copy, Debug, PartialEq, Eq)]
@@ -17,8 +19,7 @@ pub(crate) enum ProgramFault {
     Parse(ParseFault),
     /// It breaks a rule of scopes and kinds.
     Kinds(TypeFault),
-    /// It has a string literal, which is a format of a function that can't be run yet, or more locations than a program
-    /// may have.
+    /// It has more locations than a program may have.
     Unsupported,
     /// There was no memory for the work.
     NoMemory,
@@ -48,6 +49,37 @@ impl ProgramFault {
             ProgramFault::Kinds(fault) => fault.words(),
             ProgramFault::Unsupported => "unsupported",
             ProgramFault::NoMemory => "out of memory",
+        }
+    }
+}
+
+/// Why a file gives no suite.
+#[derive(Clone, Copy, Debug, PartialEq, Eq)]
+pub(crate) enum TestsFault {
+    /// It has more bytes than a suite may have.
+    TooLong,
+    /// Its bytes are refused.
+    Suite(SuiteFault),
+}
+
+impl TestsFault {
+    /// The number of the test that is at fault, if one is.
+    pub(crate) fn test(&self) -> Option<u32>
+        ensures { result ≡ fault_test self.now }
+    {
+        match self {
+            TestsFault::TooLong => None,
+            TestsFault::Suite(fault) => fault.test(),
+        }
+    }
+
+    /// What is wrong, in words.
+    pub(crate) fn words(&self) -> &'static str
+        ensures { result.now ≡ suite_words self.now }
+    {
+        match self {
+            TestsFault::TooLong => "too long",
+            TestsFault::Suite(fault) => fault.words(),
         }
     }
 }

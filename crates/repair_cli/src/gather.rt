@@ -1,5 +1,5 @@
 //! Reads the program and the suite that the words name, and judges them.
-ghost use Rattle.std.specs.Prelude.{◌≡◌, ◌≢◌, ◌≤◌, Err, IfOk, IfErr, IfSome, MatchResult, unwrap_or};
+ghost use Rattle.std.specs.Prelude.{◌≡◌, ◌≢◌, ◌≤◌, length, Err, IfOk, IfErr, IfSome, MatchResult, unwrap_or};
 ghost use Rattle.fx_io.specs.Held.{Lacks};
 ghost use Rattle.c_types.specs.Shown.{tree_of};
 ghost use Rattle.test_suite.specs.Suite.{stated};
@@ -7,15 +7,18 @@ ghost use Rattle.test_suite.specs.declared.fault.SuiteFault.TheVariants as kinds
 ghost use Rattle.repair_cli.specs.Accepted.{IsShort};
 ghost use Rattle.repair_cli.specs.Complete.{HasFiles, OnRead};
 ghost use Rattle.repair_cli.specs.Jobs.{job_of, CanBeDone, IsLimit};
+ghost use Rattle.repair_cli.specs.Limits.{suite_limit};
 ghost use Rattle.repair_cli.specs.Parts.{GivesNoProgram, GivesNoSuite, IsFaultUnless, IsRefusal, IsSuiteRefusal};
 ghost use Rattle.repair_cli.specs.Refusal.{status_of, message_of};
+ghost use Rattle.repair_cli.specs.SuiteFaults.{suite_message};
 ghost use Rattle.repair_cli.specs.Source.{source, file, States, Cause, HoldsProgram, HoldsSuite};
 
 use crate::accept::accept;
-use crate::fault::ProgramFault;
+use crate::fault::{ProgramFault, TestsFault};
 use crate::job::Job;
 use crate::limits::{SOURCE_LIMIT, SUITE_LIMIT};
 use crate::refusal::Refusal;
+use crate::status::Status;
 use crate::words::{Options, asked_by, command_of};
 use c_types::Typed;
 use fx_io::{Files, ReadEnd, read_whole};
@@ -136,7 +139,7 @@ fn suite_named<'a, F: Files>(
     let bytes = match read_whole(alloc, files, name, SUITE_LIMIT) {
         Ok(bytes) => bytes,
         Err(ReadEnd::Fault) => return Err(Refusal::Read(name)),
-        Err(ReadEnd::TooLong(_)) => return Err(Refusal::Suite(name)),
+        Err(ReadEnd::TooLong(_)) => return Err(long_suite(name)),
         Err(ReadEnd::NoMemory) => return Err(Refusal::Memory),
     };
     match read_suite(alloc, &bytes) {
@@ -145,13 +148,26 @@ fn suite_named<'a, F: Files>(
     }
 }
 
+// The refusal of the suite of this name, which is too long.
+fn long_suite(name: &str) -> Refusal<'_>
+    ensures status { status_of result ≡ Status.SuiteRefused }
+    ensures message { message_of result ≡ suite_message name.now TestsFault.TooLong }
+{
+    let fault = TestsFault::TooLong;
+    Refusal::Suite { name, fault }
+}
+
 // The refusal of the suite of this name for this fault.
 fn refused_suite<'a>(name: &'a str, bytes: &[u8], fault: SuiteFault) -> Refusal<'a>
-    requires { fault ≢ kinds.NoMemory → stated bytes.now ≡ Err fault }
+    requires short { length bytes.now ≤ suite_limit }
+    requires fault { fault ≢ kinds.NoMemory → stated bytes.now ≡ Err fault }
     ensures { IsSuiteRefusal name.now bytes.now (status_of result) (message_of result) }
 {
     match fault {
         SuiteFault::NoMemory => Refusal::Memory,
-        _ => Refusal::Suite(name),
+        _ => Refusal::Suite {
+            name,
+            fault: TestsFault::Suite(fault),
+        },
     }
 }

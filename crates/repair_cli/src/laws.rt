@@ -1,13 +1,16 @@
 //! Laws of the answers, each the contract of a function that does nothing.
 ghost use Rattle.repair_cli.specs.Laws.{OneProgram, OneFault, OneRefusal, NeverBoth, OneReply, OneEnd};
+ghost use Rattle.repair_cli.specs.Laws.{OneSuiteRefusal, NeverBothOfSuite, AcceptedAreAnswered};
 
-/// A source states one program at most, or has one first fault at most and so one message, and never both. Where the
-/// files are known, one answer at most is right for a call's words and files, with one text.
+/// A source states one program at most, or has one first fault at most and so one message, and never both; so it is with
+/// a suite. Where the files are known, one answer at most is right for a call's words and files, with one text.
 pub fn one_answer()
     ensures program { OneProgram }
     ensures fault { OneFault }
     ensures refusal { OneRefusal }
     ensures either { NeverBoth }
+    ensures suite { OneSuiteRefusal }
+    ensures suite_either { NeverBothOfSuite }
     ensures reply { OneReply }
 {}
 
@@ -15,4 +18,10 @@ pub fn one_answer()
 /// the same bytes to standard output and to standard error, whatever failures were counted.
 pub fn one_end()
     ensures { OneEnd }
+{}
+
+/// A call whose words are a command, and whose files are known and state a program and tests, ends with an answer or runs
+/// out of memory, unless a call on the files or on a sink failed.
+pub fn accepted_are_answered()
+    ensures { AcceptedAreAnswered }
 {}

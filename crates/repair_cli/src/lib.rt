@@ -1,4 +1,4 @@
-//! The command `f1x repair PROGRAM SUITE`, over any files and sinks.
+//! The command `f1x repair PROGRAM SUITE`, with its options, over any files and sinks.
 #![tactic(auto)]
 
 mod accept;
@@ -19,6 +19,6 @@ mod tests;
 mod tried;
 mod words;
 
-pub use laws::{one_answer, one_end};
+pub use laws::{accepted_are_answered, one_answer, one_end};
 pub use run::run_alone;
 pub use status::Status;

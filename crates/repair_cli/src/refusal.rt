@@ -2,11 +2,11 @@
 ghost use Rattle.std.specs.Prelude.{◌≡◌, ◌≤◌, ◌++◌, length, IfSome, codes};
 ghost use Rattle.repair_cli.specs.Accepted.{IsShort};
 ghost use Rattle.repair_cli.specs.Faults.{fault_place, fault_words, fault_message};
-ghost use Rattle.repair_cli.specs.Message.{text_of};
+ghost use Rattle.repair_cli.specs.Message.{text_of, place_text};
 ghost use Rattle.repair_cli.specs.Refusal.{message_of, status_of};
-ghost use Rattle.repair_cli.specs.Texts.{said_of, faulty};
+ghost use Rattle.repair_cli.specs.Texts.{said_of, faulty, faulty_suite};
 
-use crate::fault::ProgramFault;
+use crate::fault::{ProgramFault, TestsFault};
 use crate::position::line_and_column;
 use crate::status::Status;
 
@@ -23,7 +23,10 @@ pub(crate) enum Refusal<'a> {
         at: Option<(u32, u32)>,
     },
     /// The suite is refused.
-    Suite(&'a str),
+    Suite {
+        name: &'a str,
+        fault: TestsFault,
+    },
     /// The file could not be read.
     Read(&'a str),
     /// The answer could not be written.
@@ -32,13 +35,22 @@ pub(crate) enum Refusal<'a> {
     Memory,
 }
 
+/// Where in a file something is wrong.
+#[derive(Clone, Copy)]
+pub(crate) enum Place {
+    /// At a line and a column of a source, both counted from 1.
+    Position(u32, u32),
+    /// In a test of a suite, by its number, counted from 0.
+    Test(u32),
+}
+
 /// A message in pieces, so that it is written with no memory.
 #[derive(Clone, Copy)]
 pub(crate) struct Message<'a> {
     pub(crate) before: &'a [u8],
     pub(crate) name: &'a [u8],
-    /// The line and the column, if there is a place.
-    pub(crate) at: Option<(u32, u32)>,
+    /// The place in the file, if there is one.
+    pub(crate) at: Option<Place>,
     pub(crate) between: &'a [u8],
     pub(crate) words: &'a [u8],
     pub(crate) end: &'a [u8],
@@ -77,7 +89,7 @@ impl<'a> Refusal<'a> {
         match self {
             Refusal::Usage => Status::Usage,
             Refusal::Program { .. } => Status::ProgramRefused,
-            Refusal::Suite(_) => Status::SuiteRefused,
+            Refusal::Suite { .. } => Status::SuiteRefused,
             Refusal::Read(_) => Status::ReadFault,
             Refusal::Write => Status::WriteFault,
             Refusal::Memory => Status::NoMemory,
@@ -89,9 +101,9 @@ impl<'a> Refusal<'a> {
         ensures { text_of result ≡ message_of self.entry }
     {
         match self {
-            Refusal::Usage => own(b"usage: f1x repair PROGRAM SUITE", ""),
-            Refusal::Program { name, fault, at } => about(name, at, fault.words()),
-            Refusal::Suite(name) => about(name, None, "bad suite"),
+            Refusal::Usage => own(b"usage: f1x repair PROGRAM SUITE [--limit=N]", ""),
+            Refusal::Program { name, fault, at } => of_source(name, at, fault.words()),
+            Refusal::Suite { name, fault } => of_suite(name, fault.test(), fault.words()),
             Refusal::Read(name) => own(b"f1x: cannot read ", name),
             Refusal::Write => own(b"f1x: cannot write", ""),
             Refusal::Memory => own(b"f1x: no memory", ""),
@@ -99,9 +111,29 @@ impl<'a> Refusal<'a> {
     }
 }
 
-// These words are said of the file of this name, or of a line and a column in it.
-fn about<'a>(name: &'a str, at: Option<(u32, u32)>, words: &'static str) -> Message<'a>
+// These words are said of the program of this name, or of a line and a column in it.
+fn of_source<'a>(name: &'a str, at: Option<(u32, u32)>, words: &'static str) -> Message<'a>
     ensures { text_of result ≡ faulty name.now at words.now }
+{
+    match at {
+        None => about(name, None, words),
+        Some((line, column)) => about(name, Some(Place::Position(line, column)), words),
+    }
+}
+
+// These words are said of the suite of this name, or of the test of this number in it.
+fn of_suite<'a>(name: &'a str, test: Option<u32>, words: &'static str) -> Message<'a>
+    ensures { text_of result ≡ faulty_suite name.now test words.now }
+{
+    match test {
+        None => about(name, None, words),
+        Some(number) => about(name, Some(Place::Test(number)), words),
+    }
+}
+
+// These words are said of the file of this name, or of a place in it.
+fn about<'a>(name: &'a str, at: Option<Place>, words: &'static str) -> Message<'a>
+    ensures { text_of result ≡ name.now ++ place_text at ++ codes ": " ++ words.now ++ codes "\n" }
 {
     Message {
         before: b"",

@@ -1,13 +1,13 @@
 //! Writes the answer, or the message that says why there is none.
 ghost use Rattle.std.specs.Prelude.{◌≡◌, ◌+◌, ◌≤◌, ◌++◌, length, MatchResult, IsOk};
 ghost use Rattle.repair_cli.specs.Ends.{status_of_answer};
-ghost use Rattle.repair_cli.specs.Message.{place_text, number_text, text_of};
+ghost use Rattle.repair_cli.specs.Message.{place_text, position_text, number_text, test_text, text_of};
 ghost use Rattle.repair_cli.specs.Parts.{Reports, Writes};
 ghost use Rattle.repair_cli.specs.Refusal.{status_of, message_of};
 ghost use Rattle.repair_cli.specs.Sinks.{seen, Appends, Breaks};
 
 use crate::answer::Reply;
-use crate::refusal::{Message, Refusal};
+use crate::refusal::{Message, Place, Refusal};
 use crate::status::Status;
 use fx_io::{Failed, Sink, write_whole};
 use itoa::Buffer;
@@ -56,17 +56,30 @@ fn write_message<S: Sink>(sink: &mut S, message: Message) -> Result<(), Failed>
     Ok(())
 }
 
-// Writes the line and the column, each after a colon, if there is a place.
-fn write_place<S: Sink>(sink: &mut S, at: Option<(u32, u32)>) -> Result<(), Failed>
+// Writes the place, if there is one: the line and the column, each after a colon, or the number of the test.
+fn write_place<S: Sink>(sink: &mut S, at: Option<Place>) -> Result<(), Failed>
     ensures faults { S.faults sink.old ≤ S.faults sink.new }
     ensures written { let wrote = seen S.faults S.written sink.old sink.new in
         MatchResult result (λ _. Appends wrote (place_text at)) (λ _. Breaks wrote (place_text at)) }
     ensures room { length (place_text at) ≤ S.room sink.old →
         IsOk result × (S.room sink.new + length (place_text at) ≡ S.room sink.old) }
 {
-    let Some((line, column)) = at else {
-        return Ok(());
-    };
+    match at {
+        None => Ok(()),
+        Some(Place::Position(line, column)) => write_position(sink, line, column),
+        Some(Place::Test(number)) => write_test(sink, number),
+    }
+}
+
+// Writes the line and the column, each after a colon.
+fn write_position<S: Sink>(sink: &mut S, line: u32, column: u32) -> Result<(), Failed>
+    ensures faults { S.faults sink.old ≤ S.faults sink.new }
+    ensures written { let wrote = seen S.faults S.written sink.old sink.new in
+        let text = position_text line column in
+        MatchResult result (λ _. Appends wrote text) (λ _. Breaks wrote text) }
+    ensures room { let text = position_text line column in length text ≤ S.room sink.old →
+        IsOk result × (S.room sink.new + length text ≡ S.room sink.old) }
+{
     write_number(sink, line)?;
     write_number(sink, column)?;
     Ok(())
@@ -82,6 +95,18 @@ fn write_number<S: Sink>(sink: &mut S, n: u32) -> Result<(), Failed>
 {
     let mut buffer = Buffer::new();
     write_both(sink, b":", buffer.format(n).as_bytes())
+}
+
+// Writes that it is the test of this number.
+fn write_test<S: Sink>(sink: &mut S, n: u32) -> Result<(), Failed>
+    ensures faults { S.faults sink.old ≤ S.faults sink.new }
+    ensures written { let wrote = seen S.faults S.written sink.old sink.new in
+        MatchResult result (λ _. Appends wrote (test_text n)) (λ _. Breaks wrote (test_text n)) }
+    ensures room { length (test_text n) ≤ S.room sink.old →
+        IsOk result × (S.room sink.new + length (test_text n) ≡ S.room sink.old) }
+{
+    let mut buffer = Buffer::new();
+    write_both(sink, b": test ", buffer.format(n).as_bytes())
 }
 
 // Writes the one piece, and the other after it.

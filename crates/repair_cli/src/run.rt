@@ -15,7 +15,8 @@ use fx_io::{Files, Sink};
 use std::alloc::Global;
 
 /// Repairs the program that the words name, over the tests of the suite that they name. The words are those after
-/// the program's own name: `repair`, then the name of a C source, then the name of a JSON suite.
+/// the program's own name: `repair`, and then the name of a C source, the name of a JSON suite, and options before,
+/// between or after these.
 ///
 /// The answer goes to `out`: the patched source, or a line that there is nothing to repair or that no patch repairs
 /// it. Where there is no answer a message goes to `err`. The status says which: its number is the

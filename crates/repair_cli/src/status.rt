@@ -13,9 +13,9 @@ pub enum Status {
     Sound,
     /// The words are no command.
     Usage,
-    /// The program is too long, or isn't of the supported form.
+    /// The program is too long, or has a fault.
     ProgramRefused,
-    /// The suite is too long, or isn't a suite of tests.
+    /// The suite is too long, or is refused for what it states.
     SuiteRefused,
     /// A file could not be read.
     ReadFault,

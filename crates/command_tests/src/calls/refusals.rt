@@ -24,93 +24,91 @@ fn refuses(rt: &impl Abort, alloc: Global, program: &str, message: &str) -> Resu
     ends(rt, alloc, program, want)
 }
 
+/// Sources with a fault of their tokens or their grammar.
+const TEXTS: [(&str, &str); 16] = [
+    ("int main(void){ return @; }", "p.c:1:24: stray byte\n"),
+    ("int main(void){} /* x", "p.c:1:18: comment is not closed\n"),
+    (
+        "int main(void){ putchar('a); }",
+        "p.c:1:25: literal is not closed\n",
+    ),
+    ("int main(void) { return 08; }", "p.c:1:25: bad constant\n"),
+    (
+        "int main(void) { return 2147483648; }",
+        "p.c:1:25: constant too large\n",
+    ),
+    (
+        "int main(void) { return 0; } #define N 1",
+        "p.c:1:30: directive after the first declaration\n",
+    ),
+    ("#pragma once", "p.c:1:1: unknown directive\n"),
+    ("#define N 1\n#define N 2", "p.c:2:9: macro defined twice\n"),
+    ("int main(void) <% %>", "p.c:1:16: digraph\n"),
+    (
+        "int main(void) { return 0; } /* ??= */",
+        "p.c:1:33: trigraph\n",
+    ),
+    ("// \\\n", "p.c:1:4: line splice\n"),
+    (
+        "int main(void) { return 1 }",
+        "p.c:1:27: unexpected token\n",
+    ),
+    ("", "p.c:1:1: unexpected token\n"),
+    (
+        "int main(void)\n{\n    return 1\n}\n",
+        "p.c:4:1: unexpected token\n",
+    ),
+    ("int main(void) {\n", "p.c:2:1: unexpected token\n"),
+    ("\n\n  ?", "p.c:3:3: unexpected token\n"),
+];
+
 #[test]
 fn reports_the_first_fault_of_a_text(rt: HostRuntime) -> Result<(), Fail> {
-    let table = [
-        ("int main(void){ return @; }", "p.c:1:24: stray byte\n"),
-        ("int main(void){} /* x", "p.c:1:18: comment is not closed\n"),
-        (
-            "int main(void){ putchar('a); }",
-            "p.c:1:25: literal is not closed\n",
-        ),
-        ("int main(void) { return 08; }", "p.c:1:25: bad constant\n"),
-        (
-            "int main(void) { return 2147483648; }",
-            "p.c:1:25: constant too large\n",
-        ),
-        (
-            "int main(void) { return 0; } #define N 1",
-            "p.c:1:30: directive after the first declaration\n",
-        ),
-        ("#pragma once", "p.c:1:1: unknown directive\n"),
-        ("#define N 1\n#define N 2", "p.c:2:9: macro defined twice\n"),
-        ("int main(void) <% %>", "p.c:1:16: digraph\n"),
-        (
-            "int main(void) { return 0; } /* ??= */",
-            "p.c:1:33: trigraph\n",
-        ),
-        ("// \\\n", "p.c:1:4: line splice\n"),
-        (
-            "int main(void) { return 1 }",
-            "p.c:1:27: unexpected token\n",
-        ),
-        ("", "p.c:1:1: unexpected token\n"),
-        (
-            "int main(void)\n{\n    return 1\n}\n",
-            "p.c:4:1: unexpected token\n",
-        ),
-        ("int main(void) {\n", "p.c:2:1: unexpected token\n"),
-        ("\n\n  ?", "p.c:3:3: unexpected token\n"),
-    ];
-    for (program, message) in table {
+    for (program, message) in TEXTS {
         refuses(&rt, rt.alloc(), program, message)?;
     }
     Ok(())
 }
 
+/// Sources with a fault of names and kinds.
+const KINDS: [(&str, &str); 11] = [
+    ("int main(void) { a = 1; }", "p.c:1:18: unknown name\n"),
+    (
+        "int main(void) { int a; int a; }",
+        "p.c:1:29: declared twice\n",
+    ),
+    (
+        "int a[2]; int main(void) { return a; }",
+        "p.c:1:35: wrong kind\n",
+    ),
+    (
+        "int f(int a) { return a; }\nint main(void) { return f(); }",
+        "p.c:2:25: wrong count\n",
+    ),
+    ("int main(void) { 1 = 2; }", "p.c:1:18: not a place\n"),
+    (
+        "int a = getchar();\nint main(void) { }",
+        "p.c:1:9: not a constant\n",
+    ),
+    (
+        "int main(void) { int a[0]; }",
+        "p.c:1:22: bad array length\n",
+    ),
+    ("int main(void) { break; }", "p.c:1:18: outside a loop\n"),
+    (
+        "int main(void) { printf(\"%x\"); }",
+        "p.c:1:25: bad format\n",
+    ),
+    ("int f(void) { return 0; }\n", "p.c:2:1: no main\n"),
+    (
+        "int main(void) { printf(\"a\"); a; }",
+        "p.c:1:31: unknown name\n",
+    ),
+];
+
 #[test]
 fn reports_the_first_fault_of_scopes_and_kinds(rt: HostRuntime) -> Result<(), Fail> {
-    let table = [
-        ("int main(void) { a = 1; }", "p.c:1:18: unknown name\n"),
-        (
-            "int main(void) { int a; int a; }",
-            "p.c:1:29: declared twice\n",
-        ),
-        (
-            "int a[2]; int main(void) { return a; }",
-            "p.c:1:35: wrong kind\n",
-        ),
-        (
-            "int f(int a) { return a; }\nint main(void) { return f(); }",
-            "p.c:2:25: wrong count\n",
-        ),
-        ("int main(void) { 1 = 2; }", "p.c:1:18: not a place\n"),
-        (
-            "int a = getchar();\nint main(void) { }",
-            "p.c:1:9: not a constant\n",
-        ),
-        (
-            "int main(void) { int a[0]; }",
-            "p.c:1:22: bad array length\n",
-        ),
-        ("int main(void) { break; }", "p.c:1:18: outside a loop\n"),
-        (
-            "int main(void) { printf(\"%x\"); }",
-            "p.c:1:25: bad format\n",
-        ),
-        ("int f(void) { return 0; }\n", "p.c:2:1: no main\n"),
-        // Faults come before what can't be run yet.
-        (
-            "int main(void) { printf(\"a\"); a; }",
-            "p.c:1:31: unknown name\n",
-        ),
-        ("int main(void) { printf(\"a\"); }", "p.c: unsupported\n"),
-        (
-            "int main(void) { int a; scanf(\"%d\", &a); }",
-            "p.c: unsupported\n",
-        ),
-    ];
-    for (program, message) in table {
+    for (program, message) in KINDS {
         refuses(&rt, rt.alloc(), program, message)?;
     }
     Ok(())

@@ -1,4 +1,4 @@
-use Rattle.std.proofs.Common.{◌≡◌, ◌≢◌, ◌∙◌, List, ℕ, Ok, true, false, ap, sym, subst}
+use Rattle.std.proofs.Common.{◌≡◌, ◌≢◌, List, ℕ, Ok, true, false, sym, subst}
 use Rattle.c_tree.specs.Views.{program}
 use Rattle.c_lex.specs.Tokens.{Lexes}
 use Rattle.c_lex.specs.declared.fault.LexFault.TheVariants as lex
@@ -10,7 +10,6 @@ use Rattle.c_types.specs.declared.fault.TypeFault.TheVariants as kinds
 use Rattle.repair_job.specs.Patches.{HasFewLocations}
 use Rattle.repair_cli.specs.Accepted.{IsShort, IsCut, IsRead}
 use Rattle.repair_cli.specs.Faults.{IsFault}
-use Rattle.repair_cli.specs.Literals.{has_literal}
 use Rattle.repair_cli.specs.declared.fault.ProgramFault.{ProgramFault}
 use Rattle.repair_cli.proofs.accept.accept.Goals as goal
 
@@ -41,15 +40,6 @@ returns-in-Err-check c =
     subst (λ (f : ProgramFault). IsFault c.args.bytes.now f) (sym (c.of_kinds.ensures.some n))
     (IsFault.of_kinds c.in-Err-check.fault (program c.in-Ok-parse.tree) n read c.in-Err-check.ensures.refused)
 
-pub returns-then-has_literal : goal.returns-then-has_literal
-returns-then-has_literal c =
-    λ h.
-    let tree = program c.in-Ok-parse.tree in
-    let read : IsRead c.args.bytes.now tree =
-    record { tokens = c.deref.result.now; cut = cut _ _ _ c.requires c.in-Ok.ensures.ok c.deref.ensures.value; derived = c.in-Ok-parse.ensures.derived } in
-    IsFault.of_literal tree read c.in-Ok-check.ensures.accepted
-    (ap has_literal (c.deref.ensures.value ∙ sym c.deref-2.ensures.value) ∙ sym c.has_literal.ensures ∙ c.if-has_literal.true)
-
 pub returns-then-not-few : goal.returns-then-not-few
 returns-then-not-few c =
     λ h.
@@ -71,7 +61,6 @@ returns c =
     record {
       tree = tree;
       read = read;
-      plain = ap has_literal (c.deref.ensures.value ∙ sym c.deref-2.ensures.value) ∙ sym c.has_literal.ensures ∙ c.if-has_literal.false;
       runnable = record {
         typed = c.in-Ok-check.ensures.accepted;
         is_resolved = c.in-Ok-check.ensures.resolved;

@@ -1,7 +1,5 @@
 -- A source that is too long, and one that is refused.
-use Rattle.repair_cli.specs.Refusal.{status_of, message_of}
-use Rattle.repair_cli.specs.Source.{file}
-use Rattle.repair_cli.proofs.Refusing.{long_gives, refused_gives}
+use Rattle.repair_cli.proofs.Refusing.{long_gives}
 use Rattle.repair_cli.proofs.gather.program_named.Goals as goal
 
 pub returns-in-Err-TooLong-clause-refusal : goal.returns-in-Err-TooLong-clause-refusal
