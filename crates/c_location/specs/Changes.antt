@@ -12,7 +12,8 @@ use Rattle.c_location.specs.Rewrites.{Rewrite}
 abbrev pub replaced : Tree → Rewrite
 replaced new = record { tree = λ old. new; code = λ c. c }
 
--- a condition and the new one joined by an operator, with the text of the old one; a statement stays
+-- a condition and the new one joined by an operator, with the text of the old one;
+-- a statement stays
 abbrev pub combined : BinOp → Tree → Rewrite
 combined op new = record { tree = λ old. binary op old new (span_of old); code = λ c. c }
 

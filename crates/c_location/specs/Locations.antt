@@ -1,4 +1,5 @@
--- The locations of a program, in text order, each with the part that stands there: the places that a patch can change.
+-- The locations of a program, in text order, each with the part that stands there: the places that
+-- a patch can change.
 use Rattle.std.specs.Prelude.{◌&&◌, Bool, true, false, List, [], ◌∷◌, ◌++◌, map, Option, Some, None, option_map}
 use Rattle.std.specs.List.{flat_map, find}
 use Rattle.c_tree.specs.declared.expr.BinOp.{BinOp}

@@ -1,4 +1,5 @@
--- A program with one hole in the place of the part at a location, and the program again with a part put into the hole.
+-- A program with one hole in the place of the part at a location, and the program again with a part
+-- put into the hole.
 use Rattle.std.specs.Prelude.{◌≡◌, ℕ, ◌+◌, ◌<◌, List, [], ◌∷◌, map, sum, Option, Some, None}
 use Rattle.std.specs.List.{All}
 use Rattle.c_tree.specs.declared.place.Loc.{Loc}
@@ -105,7 +106,8 @@ into_hole (expression e) = e
 into_hole (statement c) = hole
 
 module _ (part : Part) where
-  -- a statement, with the part put in where it is a hole and the part is a statement; another is as given
+  -- a statement, with the part put in where it is a hole and the part is a statement;
+  -- another is as given
   abbrev pub into_act : Tree → Code → Code
   into_act hole other = elim part [ expression e ↦ other | statement c ↦ c ]
   into_act _ other = other
@@ -197,8 +199,8 @@ IsOf Cond at (expression e) = span_of e ≡ at
 IsOf Right at (expression e) = span_of e ≡ at
 IsOf _ _ _ = ⊥
 
--- The location names one place of the program. The program is one with a single hole, with the part in the hole; and whatever
--- becomes of the part, it stands in that hole, and all else stays.
+-- The location names one place of the program. The program is one with a single hole, with the part
+-- in the hole; and whatever becomes of the part, it stands in that hole, and all else stays.
 pub record NamesOnePlace (l : Loc) (p : List Outer) : Type 0 where
   pub part : Part
   pub found : part_at l p ≡ Some part

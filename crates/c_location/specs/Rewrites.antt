@@ -1,5 +1,5 @@
--- A program with the part at one location rewritten: one walk for patched programs, for programs with a hole, and for any other
--- change at one place.
+-- A program with the part at one location rewritten: one walk for patched programs, for programs
+-- with a hole, and for any other change at one place.
 use Rattle.std.specs.Prelude.{if◌then◌else◌, List, map, Option, Some, None}
 use Rattle.c_tree.specs.declared.expr.BinOp.{BinOp}
 use Rattle.c_tree.specs.declared.place.Loc.{Loc}
@@ -20,7 +20,8 @@ rewrite r (expression e) = expression (r.tree e)
 rewrite r (statement c) = statement (r.code c)
 
 module _ (l : Loc) (r : Rewrite) where
-  -- an expression of that kind: rewritten where it is the location, and else what it is with its parts looked at
+  -- an expression of that kind: rewritten where it is the location, and else what it is with its
+  -- parts looked at
   abbrev pub at_tree : LocKind → Tree → Tree → Tree
   at_tree kind e inside = if stands l kind (span_of e) then r.tree e else inside
 

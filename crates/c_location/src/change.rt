@@ -91,7 +91,8 @@ pub fn changed_statement(
     span: Span,
     change: &Change,
 ) -> Result<StmtNode, NoMemory>
-    ensures { IfOk result (λ r. node_code r span ≡ (rewrite_of change.now).code (node_code node span)) }
+    ensures { IfOk result (λ r. node_code r span ≡
+        (rewrite_of change.now).code (node_code node span)) }
 {
     match change {
         Change::Replaced(_) | Change::Narrowed(_) | Change::Widened(_) => Ok(node),

@@ -15,7 +15,8 @@ use std::alloc::Global;
 pub fn locations(alloc: Global, program: &Program) -> Result<Vec<Loc>, LocFault>
     ensures listed { IfOk result (λ list. list.items ≡ locations_of (tree_program program.now)) }
     ensures few { IfOk result (λ list. length list.items ≤ 4096) }
-    ensures refused { IfErr result (λ fault. Causes fault (locations_of (tree_program program.now))) }
+    ensures refused { IfErr result (λ fault.
+        Causes fault (locations_of (tree_program program.now))) }
 {
     let mut found = Tally::new(alloc);
     add_program(&mut found, program)?;

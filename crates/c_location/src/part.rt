@@ -214,8 +214,8 @@ fn in_head<'a>(
     step: &'a Option<Expr>,
     l: &Loc,
 ) -> Option<Part<'a>>
-    ensures { option_map lent result
-        ≡ found_at l.now (in_first (first init.now) ++ of_test (tree_option test.now) ++ of_step (tree_option step.now)) }
+    ensures { option_map lent result ≡ found_at l.now (in_first (first init.now)
+        ++ of_test (tree_option test.now) ++ of_step (tree_option step.now)) }
 {
     if let Some(found) = in_init(init, l) {
         return Some(found);

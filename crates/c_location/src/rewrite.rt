@@ -3,7 +3,7 @@
 
 ghost use Rattle.std.specs.Prelude.{◌≡◌, map, OnOk, IfOk};
 ghost use Rattle.c_tree.specs.declared.place.Span.{Span};
-ghost use Rattle.c_tree.specs.Tree.{Args, Body, act, give};
+ghost use Rattle.c_tree.specs.Tree.{Args, Body, binary, choice, assign, comma, act, if_then, if_else, for, give};
 ghost use Rattle.c_tree.specs.Views.{tree, node_tree, args_of, with_arg, trees, tree_option, initial, variable, variables, first, code, node_code, body_of, body_option, with_item, outer, program as tree_program};
 ghost use Rattle.c_location.specs.Changes.{rewrite_of};
 ghost use Rattle.c_location.specs.Rewrites.{at_tree, at_assigned, at_code, to_tree, to_args, to_test, to_step, to_value, to_initial, to_variable, to_first, to_code, to_body, to_definition, to_outer, rewritten};
@@ -61,34 +61,9 @@ fn changed_node(
             change_expr(alloc, &mut of, l, change)?;
             Ok(ExprNode::Cast { ty, of })
         }
-        ExprNode::Binary {
-            op,
-            mut left,
-            mut right,
-        } => {
-            change_expr(alloc, &mut left, l, change)?;
-            change_expr(alloc, &mut right, l, change)?;
-            Ok(ExprNode::Binary { op, left, right })
-        }
-        ExprNode::Choice {
-            mut test,
-            mut yes,
-            mut no,
-        } => {
-            change_expr(alloc, &mut test, l, change)?;
-            change_expr(alloc, &mut yes, l, change)?;
-            change_expr(alloc, &mut no, l, change)?;
-            Ok(ExprNode::Choice { test, yes, no })
-        }
-        ExprNode::Assign {
-            op,
-            mut place,
-            mut value,
-        } => {
-            change_expr(alloc, &mut place, l, change)?;
-            change_assigned(alloc, &mut value, op, l, change)?;
-            Ok(ExprNode::Assign { op, place, value })
-        }
+        ExprNode::Binary { op, left, right } => changed_binary(alloc, op, left, right, l, change),
+        ExprNode::Choice { test, yes, no } => changed_choice(alloc, test, yes, no, l, change),
+        ExprNode::Assign { op, place, value } => changed_assign(alloc, op, place, value, l, change),
         ExprNode::Bump {
             before,
             up,
@@ -97,15 +72,80 @@ fn changed_node(
             change_expr(alloc, &mut place, l, change)?;
             Ok(ExprNode::Bump { before, up, place })
         }
-        ExprNode::Comma {
-            mut left,
-            mut right,
-        } => {
-            change_expr(alloc, &mut left, l, change)?;
-            change_expr(alloc, &mut right, l, change)?;
-            Ok(ExprNode::Comma { left, right })
-        }
+        ExprNode::Comma { left, right } => changed_comma(alloc, left, right, l, change),
     }
+}
+
+/// The operator between its operands, changed.
+#[cycle(change_expr)]
+fn changed_binary(
+    alloc: Global,
+    op: BinOp,
+    mut left: Box<Expr>,
+    mut right: Box<Expr>,
+    l: &Loc,
+    change: &Change,
+) -> Result<ExprNode, NoMemory>
+    ensures { IfOk result (λ r. (s : Span) → node_tree r s ≡
+        to_tree l.now (rewrite_of change.now) (binary op (tree left.value) (tree right.value) s)) }
+{
+    change_expr(alloc, &mut left, l, change)?;
+    change_expr(alloc, &mut right, l, change)?;
+    Ok(ExprNode::Binary { op, left, right })
+}
+
+/// The choice between two expressions, changed.
+#[cycle(change_expr)]
+fn changed_choice(
+    alloc: Global,
+    mut test: Box<Expr>,
+    mut yes: Box<Expr>,
+    mut no: Box<Expr>,
+    l: &Loc,
+    change: &Change,
+) -> Result<ExprNode, NoMemory>
+    ensures { IfOk result (λ r. (s : Span) → node_tree r s ≡ to_tree l.now (rewrite_of change.now)
+        (choice (tree test.value) (tree yes.value) (tree no.value) s)) }
+{
+    change_expr(alloc, &mut test, l, change)?;
+    change_expr(alloc, &mut yes, l, change)?;
+    change_expr(alloc, &mut no, l, change)?;
+    Ok(ExprNode::Choice { test, yes, no })
+}
+
+/// The assignment, changed.
+#[cycle(change_expr)]
+fn changed_assign(
+    alloc: Global,
+    op: Option<BinOp>,
+    mut place: Box<Expr>,
+    mut value: Box<Expr>,
+    l: &Loc,
+    change: &Change,
+) -> Result<ExprNode, NoMemory>
+    ensures { IfOk result (λ r. (s : Span) → node_tree r s ≡
+        to_tree l.now (rewrite_of change.now) (assign op (tree place.value) (tree value.value) s)) }
+{
+    change_expr(alloc, &mut place, l, change)?;
+    change_assigned(alloc, &mut value, op, l, change)?;
+    Ok(ExprNode::Assign { op, place, value })
+}
+
+/// The two expressions with a comma between them, changed.
+#[cycle(change_expr)]
+fn changed_comma(
+    alloc: Global,
+    mut left: Box<Expr>,
+    mut right: Box<Expr>,
+    l: &Loc,
+    change: &Change,
+) -> Result<ExprNode, NoMemory>
+    ensures { IfOk result (λ r. (s : Span) → node_tree r s ≡
+        to_tree l.now (rewrite_of change.now) (comma (tree left.value) (tree right.value) s)) }
+{
+    change_expr(alloc, &mut left, l, change)?;
+    change_expr(alloc, &mut right, l, change)?;
+    Ok(ExprNode::Comma { left, right })
 }
 
 /// Changes the value of an assignment, which is a location where the assignment has no operator.
@@ -160,7 +200,8 @@ fn change_args(alloc: Global, args: &mut [Arg], l: &Loc, change: &Change) -> Res
 /// Changes an argument.
 #[cycle(change_expr)]
 fn change_arg(alloc: Global, arg: &mut Arg, l: &Loc, change: &Change) -> Result<(), NoMemory>
-    ensures { OnOk result ((rest : Args) → with_arg arg.new (to_args l.now (rewrite_of change.now) rest)
+    ensures { OnOk result ((rest : Args) →
+        with_arg arg.new (to_args l.now (rewrite_of change.now) rest)
         ≡ to_args l.now (rewrite_of change.now) (with_arg arg.old rest)) }
 {
     match arg {
@@ -220,7 +261,8 @@ fn change_value(
 
 /// Changes the expressions.
 fn change_exprs(alloc: Global, es: &mut [Expr], l: &Loc, change: &Change) -> Result<(), NoMemory>
-    ensures { OnOk result (trees es.new ≡ map (to_tree l.now (rewrite_of change.now)) (trees es.old)) }
+    ensures { OnOk result (trees es.new ≡
+        map (to_tree l.now (rewrite_of change.now)) (trees es.old)) }
 {
     for e in es {
         change_expr(alloc, e, l, change)?;
@@ -271,7 +313,8 @@ fn change_declarators(
 
 /// Changes the first clause of a `for`.
 fn change_init(alloc: Global, init: &mut Init, l: &Loc, change: &Change) -> Result<(), NoMemory>
-    ensures { OnOk result (first init.new ≡ to_first l.now (rewrite_of change.now) (first init.old)) }
+    ensures { OnOk result (first init.new ≡
+        to_first l.now (rewrite_of change.now) (first init.old)) }
 {
     match init {
         Init::Empty => Ok(()),
@@ -366,29 +409,10 @@ fn changed_kind(
             change_items(alloc, &mut items, l, change)?;
             Ok(StmtNode::Block(items))
         }
-        StmtNode::If {
-            mut test,
-            mut yes,
-            no,
-        } => {
-            change_here(alloc, &mut test, LocKind::Cond, l, change)?;
-            change_stmt(alloc, &mut yes, l, change)?;
-            match no {
-                None => Ok(StmtNode::If {
-                    test,
-                    yes,
-                    no: None,
-                }),
-                Some(mut no) => {
-                    change_stmt(alloc, &mut no, l, change)?;
-                    Ok(StmtNode::If {
-                        test,
-                        yes,
-                        no: Some(no),
-                    })
-                }
-            }
-        }
+        StmtNode::If { test, yes, no } => match no {
+            None => changed_if(alloc, test, yes, l, change),
+            Some(no) => changed_if_else(alloc, test, yes, no, l, change),
+        },
         StmtNode::While { mut test, mut body } => {
             change_here(alloc, &mut test, LocKind::Cond, l, change)?;
             change_stmt(alloc, &mut body, l, change)?;
@@ -400,23 +424,82 @@ fn changed_kind(
             Ok(StmtNode::Do { body, test })
         }
         StmtNode::For {
-            mut init,
-            mut test,
-            mut step,
-            mut body,
-        } => {
-            change_init(alloc, &mut init, l, change)?;
-            change_test(alloc, &mut test, l, change)?;
-            change_step(alloc, &mut step, l, change)?;
-            change_stmt(alloc, &mut body, l, change)?;
-            Ok(StmtNode::For {
-                init,
-                test,
-                step,
-                body,
-            })
-        }
+            init,
+            test,
+            step,
+            body,
+        } => changed_for(alloc, init, test, step, body, l, change),
     }
+}
+
+/// The `if` with no `else`, changed.
+#[cycle(change_stmt)]
+fn changed_if(
+    alloc: Global,
+    mut test: Expr,
+    mut yes: Box<Stmt>,
+    l: &Loc,
+    change: &Change,
+) -> Result<StmtNode, NoMemory>
+    ensures { IfOk result (λ r. (s : Span) → node_code r s ≡
+        to_code l.now (rewrite_of change.now) (if_then (tree test) (code yes.value) s)) }
+{
+    change_here(alloc, &mut test, LocKind::Cond, l, change)?;
+    change_stmt(alloc, &mut yes, l, change)?;
+    Ok(StmtNode::If {
+        test,
+        yes,
+        no: None,
+    })
+}
+
+/// The `if` with an `else`, changed.
+#[cycle(change_stmt)]
+fn changed_if_else(
+    alloc: Global,
+    mut test: Expr,
+    mut yes: Box<Stmt>,
+    mut no: Box<Stmt>,
+    l: &Loc,
+    change: &Change,
+) -> Result<StmtNode, NoMemory>
+    ensures { IfOk result (λ r. (s : Span) → node_code r s ≡ to_code l.now (rewrite_of change.now)
+        (if_else (tree test) (code yes.value) (code no.value) s)) }
+{
+    change_here(alloc, &mut test, LocKind::Cond, l, change)?;
+    change_stmt(alloc, &mut yes, l, change)?;
+    change_stmt(alloc, &mut no, l, change)?;
+    Ok(StmtNode::If {
+        test,
+        yes,
+        no: Some(no),
+    })
+}
+
+/// The `for`, changed.
+#[cycle(change_stmt)]
+fn changed_for(
+    alloc: Global,
+    mut init: Init,
+    mut test: Option<Expr>,
+    mut step: Option<Expr>,
+    mut body: Box<Stmt>,
+    l: &Loc,
+    change: &Change,
+) -> Result<StmtNode, NoMemory>
+    ensures { IfOk result (λ r. (s : Span) → node_code r s ≡ to_code l.now (rewrite_of change.now)
+        (for (first init) (tree_option test) (tree_option step) (code body.value) s)) }
+{
+    change_init(alloc, &mut init, l, change)?;
+    change_test(alloc, &mut test, l, change)?;
+    change_step(alloc, &mut step, l, change)?;
+    change_stmt(alloc, &mut body, l, change)?;
+    Ok(StmtNode::For {
+        init,
+        test,
+        step,
+        body,
+    })
 }
 
 /// Changes the items of a block.

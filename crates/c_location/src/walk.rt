@@ -136,7 +136,8 @@ fn add_start(found: &mut Tally, start: &Start) -> Result<(), NoMemory>
 }
 
 fn add_declarators(found: &mut Tally, declarators: &[Declarator]) -> Result<(), NoMemory>
-    ensures { OnOk result (found.new ≡ with_all found.old (in_variables (variables declarators.now))) }
+    ensures { OnOk result (found.new ≡
+        with_all found.old (in_variables (variables declarators.now))) }
 {
     for declarator in declarators {
         add_start(found, &declarator.start)?;
@@ -215,7 +216,8 @@ fn add_items(found: &mut Tally, items: &[Item]) -> Result<(), NoMemory>
 #[cycle(add_stmt)]
 fn add_item(found: &mut Tally, item: &Item) -> Result<(), NoMemory>
     ensures { OnOk result ((rest : Body) →
-        with_all found.old (in_body (with_item item.now rest)) ≡ with_all found.new (in_body rest)) }
+        with_all found.old (in_body (with_item item.now rest))
+        ≡ with_all found.new (in_body rest)) }
 {
     match item {
         Item::Vars(_, declarators) => add_declarators(found, declarators),

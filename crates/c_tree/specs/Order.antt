@@ -1,6 +1,7 @@
--- Trees whose spans are in text order, as those of a parsed source are: no span is empty, the text of a part lies
--- inside the text of the whole, and the parts follow one another in it. Each relation says so of a part that lies
--- between two places of the text, the second never before the first, also where the part is empty or absent.
+-- Trees whose spans are in text order, as those of a parsed source are: no span is empty, the text
+-- of a part lies inside the text of the whole, and the parts follow one another in it. Each
+-- relation says so of a part that lies between two places of the text, the second never before the
+-- first, also where the part is empty or absent.
 use Rattle.std.specs.Prelude.{ℕ, ℤ, suc, ◌<◌, ◌≤◌, Bool, List, [], ◌∷◌, Option, Some, None}
 use Rattle.c_tree.specs.declared.place.Span.{Span}
 use Rattle.c_tree.specs.declared.stmt.Slot.{Slot}
@@ -33,16 +34,19 @@ mutual
     cast : {from to : ℕ} {ty : Ty} {e : Tree} {s : Span}
         → Within from to s → TreeIn (suc s.from) s.to e → TreeIn from to (tree.cast ty e s)
     binary : {from to m : ℕ} {f : BinOp} {l r : Tree} {s : Span}
-        → Within from to s → TreeIn s.from m l → TreeIn m s.to r → TreeIn from to (tree.binary f l r s)
+        → Within from to s → TreeIn s.from m l → TreeIn m s.to r
+        → TreeIn from to (tree.binary f l r s)
     choice : {from to m n : ℕ} {t a b : Tree} {s : Span}
         → Within from to s → TreeIn s.from m t → TreeIn m n a → TreeIn n s.to b
         → TreeIn from to (tree.choice t a b s)
     assign : {from to m : ℕ} {f : Option BinOp} {place e : Tree} {s : Span}
-        → Within from to s → TreeIn s.from m place → TreeIn m s.to e → TreeIn from to (tree.assign f place e s)
+        → Within from to s → TreeIn s.from m place → TreeIn m s.to e
+        → TreeIn from to (tree.assign f place e s)
     bump : {from to : ℕ} {before up : Bool} {place : Tree} {s : Span}
         → Within from to s → TreeIn s.from s.to place → TreeIn from to (tree.bump before up place s)
     comma : {from to m : ℕ} {l r : Tree} {s : Span}
-        → Within from to s → TreeIn s.from m l → TreeIn m s.to r → TreeIn from to (tree.comma l r s)
+        → Within from to s → TreeIn s.from m l → TreeIn m s.to r
+        → TreeIn from to (tree.comma l r s)
 
   -- the same of arguments
   pub data ArgsIn : ℕ → ℕ → Args → Type 0 where
@@ -69,7 +73,8 @@ pub data OptionIn : ℕ → ℕ → Option Tree → Type 0 where
 pub data InitialIn : ℕ → ℕ → Initial → Type 0 where
   bare : {from to : ℕ} → from ≤ to → InitialIn from to tree.bare_start
   one : {from to : ℕ} {e : Tree} → TreeIn from to e → InitialIn from to (tree.one_start e)
-  many : {from to : ℕ} {es : List Tree} → TreesIn from to es → InitialIn from to (tree.list_start es)
+  many : {from to : ℕ} {es : List Tree}
+      → TreesIn from to es → InitialIn from to (tree.list_start es)
 
 -- the same of declared variables: the initialiser of each comes after its name
 pub data VariablesIn : ℕ → ℕ → List Variable → Type 0 where
@@ -94,14 +99,17 @@ mutual
     block : {from to : ℕ} {body : Body} {s : Span}
         → Within from to s → BodyIn (suc s.from) s.to body → CodeIn from to (tree.block body s)
     if_then : {from to m : ℕ} {t : Tree} {a : Code} {s : Span}
-        → Within from to s → TreeIn (suc s.from) m t → CodeIn m s.to a → CodeIn from to (tree.if_then t a s)
+        → Within from to s → TreeIn (suc s.from) m t → CodeIn m s.to a
+        → CodeIn from to (tree.if_then t a s)
     if_else : {from to m n : ℕ} {t : Tree} {a b : Code} {s : Span}
         → Within from to s → TreeIn (suc s.from) m t → CodeIn m n a → CodeIn n s.to b
         → CodeIn from to (tree.if_else t a b s)
     while : {from to m : ℕ} {t : Tree} {a : Code} {s : Span}
-        → Within from to s → TreeIn (suc s.from) m t → CodeIn m s.to a → CodeIn from to (tree.while t a s)
+        → Within from to s → TreeIn (suc s.from) m t → CodeIn m s.to a
+        → CodeIn from to (tree.while t a s)
     do_while : {from to m : ℕ} {a : Code} {t : Tree} {s : Span}
-        → Within from to s → CodeIn (suc s.from) m a → TreeIn m s.to t → CodeIn from to (tree.do_while a t s)
+        → Within from to s → CodeIn (suc s.from) m a → TreeIn m s.to t
+        → CodeIn from to (tree.do_while a t s)
     for : {from to k m n : ℕ} {i : First} {t u : Option Tree} {a : Code} {s : Span}
         → Within from to s → FirstIn (suc s.from) k i → OptionIn k m t → OptionIn m n u
         → CodeIn n s.to a → CodeIn from to (tree.for i t u a s)

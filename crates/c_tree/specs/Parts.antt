@@ -39,7 +39,8 @@ span_of_code (continue s) = s
 abbrev pub same_span : Span → Span → Bool
 same_span s t = nat_eq s.from t.from && nat_eq s.to t.to
 
--- the variable that a name stands for, or the array that an element belongs to; other expressions name none
+-- the variable that a name stands for, or the array that an element belongs to; other expressions
+-- name none
 abbrev pub slot_of : Tree → Slot
 slot_of (name word slot s) = slot
 slot_of (index word slot e s) = slot
