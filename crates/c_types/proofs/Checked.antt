@@ -1,16 +1,15 @@
--- A program without a fault, resolved, is a checked one.
+-- A program without a fault, resolved, is a checked one, and one in text order stays so.
 use Rattle.std.proofs.Common.{◌≡◌, ℕ, Bool, true, false, not, List, [], ◌∷◌, ◌++◌, refl, sym, ap, ◌∙◌}
 use Rattle.c_tree.specs.declared.place.Span.{Span}
 use Rattle.c_tree.specs.Order.{ProgramIn}
 use Rattle.c_tree.specs.Tree.{Outer}
 use Rattle.c_types.specs.declared.fault.FaultKind.{FaultKind}
 use Rattle.c_types.specs.declared.fault.FaultKind.TheVariants.{NoMain}
-use Rattle.c_types.specs.Evidence.{IsChecked}
+use Rattle.c_types.specs.Evidence.{IsChecked, IsOrdered}
 use Rattle.c_types.specs.Least.{fault, fault_if}
 use Rattle.c_types.specs.Library.{library}
 use Rattle.c_types.specs.Programs.{outers_faults, has_main, main_faults, program_faults}
 use Rattle.c_types.specs.Slots.{resolved}
-use Rattle.c_types.specs.Unresolved.{unresolved}
 use Rattle.c_types.proofs.ResolvedOrder.{program-order}
 use Rattle.c_types.proofs.Resolving.{program-kept, program-anew}
 use Rattle.c_types.proofs.SlotlessFaults.{program-same}
@@ -50,10 +49,13 @@ any_end p end other h =
     let right : main_faults p other ≡ [] = no_fault_there (not (has_main p)) NoMain (record { from = end; to = end }) (record { from = other; to = other }) (none_right fs (main_faults p end) h) in
     ap (λ gs. gs ++ main_faults p other) left ∙ right
 
--- a program in text order without a fault, resolved, is a checked one
-pub checked : (p : List Outer) (end : ℕ) → ProgramIn 0 end p → program_faults p end ≡ [] → IsChecked (resolved p)
-checked p end ordered h = record {
+-- a program without a fault, resolved, is a checked one
+pub checked : (p : List Outer) (end : ℕ) → program_faults p end ≡ [] → IsChecked (resolved p)
+checked p end h = record {
   faultless = λ other. resolved_faults p other ∙ any_end p end other h;
   is_resolved = resolved_again p;
-  ordered = (end, program-order 0 end p ordered);
 }
+
+-- a program in text order, resolved, is in text order
+pub resolved_ordered : (p : List Outer) (end : ℕ) → ProgramIn 0 end p → IsOrdered (resolved p)
+resolved_ordered p end h = record { end = end; placed = program-order 0 end p h }

@@ -5,7 +5,6 @@ use Rattle.std.proofs.lemmas.Grind.{common_steps}
 use Rattle.std.proofs.lemmas.List.{map-id, take_all, take_more_set}
 use Rattle.c_tree.specs.declared.place.Span.{Span}
 use Rattle.c_tree.specs.declared.expr.Arg.{Arg}
-use Rattle.c_tree.specs.declared.expr.ExprNode.{ExprNode}
 use Rattle.c_tree.specs.declared.expr.ExprNode.TheVariants.{Call}
 use Rattle.c_tree.specs.declared.program.External.{External}
 use Rattle.c_tree.specs.declared.program.Param.{Param}
@@ -13,7 +12,6 @@ use Rattle.c_tree.specs.declared.stmt.Declarator.{Declarator}
 use Rattle.c_tree.specs.declared.stmt.Item.{Item}
 use Rattle.c_tree.specs.declared.stmt.Slot.{Slot}
 use Rattle.c_tree.specs.declared.stmt.Ty.{Ty}
-use Rattle.c_tree.specs.declared.stmt.StmtNode.{StmtNode}
 use Rattle.c_tree.specs.declared.stmt.StmtNode.TheVariants.{Block}
 use Rattle.c_tree.specs.Tree.{Variable, Body, Outer, outer_vars, outer_func, call, block}
 use Rattle.c_tree.specs.Views.{node_tree, args_of, node_code, variable, with_item, body_of, outer}
@@ -30,28 +28,20 @@ use Rattle.c_types.proofs.Resolving.{outers-kept}
 use Rattle.c_types.proofs.SlotlessFaults.{defined-same}
 
 -- a call whose arguments are resolved is resolved
-pub resolved_call : (ds : List Declaration) (node : ExprNode) (word : List ℕ) (args new_args : Vec Arg Global) → node ≡ Call word args
-    → args_of new_args.items ≡ resolved_args ds (args_of args.items) → (s : Span) → node_tree (Call word new_args) s ≡ resolved_tree ds (node_tree node s)
-resolved_call ds node word args new_args is h s =
-    node-Call word new_args s ∙ ap (λ x. call word x s) h
-    ∙ sym (ap (resolved_tree ds) (node-Call word args s)) ∙ sym (ap (λ (n : ExprNode). resolved_tree ds (node_tree n s)) is)
+pub resolved_call : (ds : List Declaration) (word : List ℕ) (args new_args : Vec Arg Global) → args_of new_args.items ≡ resolved_args ds (args_of args.items)
+    → (s : Span) → node_tree (Call word new_args) s ≡ resolved_tree ds (node_tree (Call word args) s)
+resolved_call ds word args new_args h s =
+    node-Call word new_args s ∙ ap (λ x. call word x s) h ∙ sym (ap (resolved_tree ds) (node-Call word args s))
 
 -- a block whose items are resolved is resolved
-pub resolved_block : (ds here around : List Declaration) (n : ℕ) (node : StmtNode) (items new_items : Vec Item Global) (xs : List Item) → node ≡ Block items
-    → here ≡ [] → around ≡ ds → xs ≡ items.items → body_of new_items.items ≡ resolved_body here around n (body_of xs)
-    → (s : Span) → node_code (Block new_items) s ≡ resolved_code ds n (node_code node s)
-resolved_block ds here around n node items new_items xs is none same all h s =
-    let body : body_of new_items.items ≡ resolved_body [] ds n (body_of items.items) =
-    h ∙ ap (λ (hs : List Declaration). resolved_body hs around n (body_of xs)) none ∙ ap (λ (os : List Declaration). resolved_body [] os n (body_of xs)) same ∙ ap (λ (ys : List Item). resolved_body [] ds n (body_of ys)) all in
-    node-Block new_items s ∙ ap (λ b. block b s) body
-    ∙ sym (ap (resolved_code ds n) (node-Block items s)) ∙ sym (ap (λ (m : StmtNode). resolved_code ds n (node_code m s)) is)
+pub resolved_block : (ds : List Declaration) (n : ℕ) (items new_items : Vec Item Global) → body_of new_items.items ≡ resolved_body [] ds n (body_of items.items)
+    → (s : Span) → node_code (Block new_items) s ≡ resolved_code ds n (node_code (Block items) s)
+resolved_block ds n items new_items h s =
+    node-Block new_items s ∙ ap (λ b. block b s) h ∙ sym (ap (resolved_code ds n) (node-Block items s))
 
 -- a block declares what its items declare
-pub count_block : (node : StmtNode) (items : Vec Item Global) (n m : ℕ) (xs : List Item) → node ≡ Block items → xs ≡ items.items
-    → m ≡ n + body_count (body_of xs) → (s : Span) → m ≡ n + code_count (node_code node s)
-count_block node items n m xs is all h s =
-    h ∙ ap (λ (ys : List Item). n + body_count (body_of ys)) all
-    ∙ sym (ap (λ b. n + code_count b) (node-Block items s)) ∙ sym (ap (λ (k : StmtNode). n + code_count (node_code k s)) is)
+pub count_block : (items : Vec Item Global) (s : Span) → body_count (body_of items.items) ≡ code_count (node_code (Block items) s)
+count_block items s = sym (ap code_count (node-Block items s))
 
 -- elements before others
 abbrev pub before : {A B : Type 0} → (A → B → B) → List A → B → B

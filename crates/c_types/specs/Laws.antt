@@ -43,10 +43,9 @@ abbrev pub ResolvingKeepsFaults : Type 0
 ResolvingKeepsFaults = (p : List Outer) (end : ℕ)
     → program_faults (resolved p) end ≡ program_faults p end
 
--- a program in text order without a fault, resolved, is a checked one
+-- a program without a fault, resolved, is a checked one
 abbrev pub ResolvedIsChecked : Type 0
-ResolvedIsChecked = (p : List Outer) (end : ℕ) → ProgramIn 0 end p → program_faults p end ≡ []
-    → IsChecked (resolved p)
+ResolvedIsChecked = (p : List Outer) (end : ℕ) → program_faults p end ≡ [] → IsChecked (resolved p)
 
 -- in a checked program each name in an expression has the slot of a variable that is in scope there
 abbrev pub NamesAreResolved : Type 0

@@ -4,6 +4,7 @@ ghost use Rattle.std.specs.Prelude.{◌≡◌, ◌≤◌, Some, [], List, IfOk, 
 ghost use Rattle.c_tree.specs.Order.{ProgramIn};
 ghost use Rattle.c_tree.specs.Views.{program as tree_program};
 ghost use Rattle.c_types.specs.declared.fault.Fault.{Fault};
+ghost use Rattle.c_types.specs.Evidence.{IsOrdered};
 ghost use Rattle.c_types.specs.FaultWords.{place_of};
 ghost use Rattle.c_types.specs.Least.{Causes, IsFirst};
 ghost use Rattle.c_types.specs.Programs.{program_faults};
@@ -40,7 +41,8 @@ impl Fault {
 }
 
 /// Checks the scopes and kinds of a program (C11 6.2.1, 6.5, 6.7, 6.8, 6.9), whose parts stand in text order
-/// in a source of that length, and gives each name the slot of the variable that it denotes.
+/// in a source of that length, and gives each name the slot of the variable that it denotes. The parts stay in text
+/// order.
 ///
 /// # Errors
 ///
@@ -50,6 +52,7 @@ pub fn check(alloc: Global, program: Program, end: u32) -> Result<Typed, TypeFau
     requires ordered { ProgramIn 0 end (tree_program program) }
     ensures accepted { OnOk result (program_faults (tree_program program) end ≡ []) }
     ensures resolved { IfOk result (λ typed. tree_of typed ≡ resolved (tree_program program)) }
+    ensures ordered { IfOk result (λ typed. IsOrdered (tree_of typed)) }
     ensures refused { IfErr result (λ fault.
         Causes fault (program_faults (tree_program program) end)) }
     ensures placed { IfErr result (λ fault. IfSome (place_of fault) (λ place. place ≤ end)) }

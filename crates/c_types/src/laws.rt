@@ -22,7 +22,7 @@ pub fn faults_ignore_slots()
     ensures resolved { ResolvingKeepsFaults }
 {}
 
-/// A program in text order without a fault, resolved, is a checked one.
+/// A program without a fault, resolved, is a checked one.
 pub fn resolved_is_checked()
     ensures { ResolvedIsChecked }
 {}

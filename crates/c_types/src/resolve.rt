@@ -1,10 +1,8 @@
-//! The variable of each name in expressions and statements. The trees are changed in place: a node is moved out, its
-//! parts are changed, and it is put back.
+//! The variable of each name in expressions and statements. The trees are changed in place.
 
 ghost use Rattle.std.specs.Prelude.{◌≡◌, ◌+◌, [], ◌∷◌, suc, length, map, IfOk, OnOk, option_copied};
-ghost use Rattle.c_tree.specs.declared.place.Span.{Span};
 ghost use Rattle.c_tree.specs.Tree.{Args, Body};
-ghost use Rattle.c_tree.specs.Views.{tree, node_tree, args_of, with_arg, trees, tree_option, initial, variable, variables, first, code, node_code, body_of, with_item};
+ghost use Rattle.c_tree.specs.Views.{tree, args_of, with_arg, trees, tree_option, initial, variable, variables, first, code, body_of, with_item};
 ghost use Rattle.c_types.specs.Scopes.{here, outside, in_scope};
 ghost use Rattle.c_types.specs.Slots.{entity_slot, slot_in, resolved_tree, resolved_args, resolved_option, resolved_initial, resolved_variables, resolved_first, numbered, numbered_variable, resolved_variable, numbered_first, first_count, code_count, body_count, resolved_code, resolved_body};
 ghost use Rattle.c_types.specs.Statements.{variable_declaration, declared, first_declared};
@@ -12,10 +10,9 @@ ghost use Rattle.c_types.specs.Statements.{variable_declaration, declared, first
 use crate::declared::variable_declaration;
 use crate::scope::{Entity, Scope, Storage};
 use c_tree::{
-    Arg, Declarator, Expr, ExprNode, Init, Item, NoMemory, Slot, Start, Stmt, StmtNode, Text, Ty,
+    Arg, Declarator, Expr, ExprNode, Init, Item, NoMemory, Slot, Start, Stmt, StmtNode, Ty,
 };
 use std::alloc::Global;
-use std::mem;
 
 /// The slot of what a name denotes.
 fn entity_slot(entity: Option<&Entity>) -> Slot
@@ -27,153 +24,112 @@ fn entity_slot(entity: Option<&Entity>) -> Slot
     }
 }
 
-/// A node that holds the place of one that is moved out.
-fn nothing(alloc: Global) -> ExprNode {
-    ExprNode::Const {
-        value: 0,
-        word: Text::new(Vec::new(alloc)),
-    }
-}
-
 /// Gives each name in the expression its variable.
 #[cycle(resolve_expr)]
-fn resolve_expr(alloc: Global, e: &mut Expr, scope: &Scope<'_>)
+fn resolve_expr(e: &mut Expr, scope: &Scope<'_>)
     ensures { tree e.new ≡ resolved_tree (in_scope scope.now) (tree e.old) }
 {
-    let node = mem::replace(&mut e.node, nothing(alloc));
-    e.node = resolved_node(alloc, node, scope);
-}
-
-/// The kind of an expression with its parts, in which each name has its variable.
-#[cycle(resolve_expr)]
-fn resolved_node(alloc: Global, node: ExprNode, scope: &Scope<'_>) -> ExprNode
-    ensures { (s : Span)
-        → node_tree result s ≡ resolved_tree (in_scope scope.now) (node_tree node s) }
-{
-    match node {
-        ExprNode::Const { value, word } => ExprNode::Const { value, word },
-        ExprNode::Name { word, .. } => {
-            let slot = entity_slot(scope.denoted(&word));
-            ExprNode::Name { word, slot }
+    match &mut e.node {
+        ExprNode::Const { .. } => {}
+        ExprNode::Name { word, slot } => *slot = entity_slot(scope.denoted(word)),
+        ExprNode::Index { word, slot, index } => {
+            *slot = entity_slot(scope.denoted(word));
+            resolve_expr(index, scope);
         }
-        ExprNode::Index {
-            word,
-            mut index,
-            ..
-        } => {
-            let slot = entity_slot(scope.denoted(&word));
-            resolve_expr(alloc, &mut index, scope);
-            ExprNode::Index { word, slot, index }
+        ExprNode::Call { args, .. } => resolve_call(args, scope),
+        ExprNode::Unary { of, .. } => resolve_expr(of, scope),
+        ExprNode::Cast { of, .. } => resolve_expr(of, scope),
+        ExprNode::Binary { left, right, .. } => {
+            resolve_expr(left, scope);
+            resolve_expr(right, scope);
         }
-        ExprNode::Call { word, mut args } => {
-            resolve_args(alloc, &mut args, scope);
-            ExprNode::Call { word, args }
+        ExprNode::Choice { test, yes, no } => {
+            resolve_expr(test, scope);
+            resolve_expr(yes, scope);
+            resolve_expr(no, scope);
         }
-        ExprNode::Unary { op, mut of } => {
-            resolve_expr(alloc, &mut of, scope);
-            ExprNode::Unary { op, of }
+        ExprNode::Assign { place, value, .. } => {
+            resolve_expr(place, scope);
+            resolve_expr(value, scope);
         }
-        ExprNode::Cast { ty, mut of } => {
-            resolve_expr(alloc, &mut of, scope);
-            ExprNode::Cast { ty, of }
-        }
-        ExprNode::Binary {
-            op,
-            mut left,
-            mut right,
-        } => {
-            resolve_expr(alloc, &mut left, scope);
-            resolve_expr(alloc, &mut right, scope);
-            ExprNode::Binary { op, left, right }
-        }
-        ExprNode::Choice {
-            mut test,
-            mut yes,
-            mut no,
-        } => {
-            resolve_expr(alloc, &mut test, scope);
-            resolve_expr(alloc, &mut yes, scope);
-            resolve_expr(alloc, &mut no, scope);
-            ExprNode::Choice { test, yes, no }
-        }
-        ExprNode::Assign {
-            op,
-            mut place,
-            mut value,
-        } => {
-            resolve_expr(alloc, &mut place, scope);
-            resolve_expr(alloc, &mut value, scope);
-            ExprNode::Assign { op, place, value }
-        }
-        ExprNode::Bump {
-            before,
-            up,
-            mut place,
-        } => {
-            resolve_expr(alloc, &mut place, scope);
-            ExprNode::Bump { before, up, place }
-        }
-        ExprNode::Comma {
-            mut left,
-            mut right,
-        } => {
-            resolve_expr(alloc, &mut left, scope);
-            resolve_expr(alloc, &mut right, scope);
-            ExprNode::Comma { left, right }
+        ExprNode::Bump { place, .. } => resolve_expr(place, scope),
+        ExprNode::Comma { left, right } => {
+            resolve_expr(left, scope);
+            resolve_expr(right, scope);
         }
     }
 }
 
 /// The same of the arguments of a call.
 #[cycle(resolve_expr)]
-fn resolve_args(alloc: Global, args: &mut [Arg], scope: &Scope<'_>)
+fn resolve_call(args: &mut Vec<Arg>, scope: &Scope<'_>)
+    ensures { args_of args.new.items
+        ≡ resolved_args (in_scope scope.now) (args_of args.old.items) }
+{
+    resolve_args(args, scope);
+}
+
+/// The same of arguments, one after another.
+#[cycle(resolve_expr)]
+fn resolve_args(args: &mut [Arg], scope: &Scope<'_>)
     ensures { args_of args.new ≡ resolved_args (in_scope scope.now) (args_of args.old) }
 {
     for arg in args {
-        resolve_arg(alloc, arg, scope);
+        resolve_arg(arg, scope);
     }
 }
 
 /// The same of an argument.
 #[cycle(resolve_expr)]
-fn resolve_arg(alloc: Global, arg: &mut Arg, scope: &Scope<'_>)
+fn resolve_arg(arg: &mut Arg, scope: &Scope<'_>)
     ensures { (rest : Args) → with_arg arg.new (resolved_args (in_scope scope.now) rest)
         ≡ resolved_args (in_scope scope.now) (with_arg arg.old rest) }
 {
     match arg {
-        Arg::Value(e) => resolve_expr(alloc, e, scope),
-        Arg::Address(e) => resolve_expr(alloc, e, scope),
+        Arg::Value(e) => resolve_expr(e, scope),
+        Arg::Address(e) => resolve_expr(e, scope),
         Arg::Format(..) => {}
     }
 }
 
 /// The same of an expression that may be missing.
-fn resolve_optional(alloc: Global, e: &mut Option<Expr>, scope: &Scope<'_>)
+fn resolve_optional(e: &mut Option<Expr>, scope: &Scope<'_>)
     ensures { tree_option e.new ≡ resolved_option (in_scope scope.now) (tree_option e.old) }
 {
     match e {
         None => {}
-        Some(e) => resolve_expr(alloc, e, scope),
+        Some(e) => resolve_expr(e, scope),
     }
 }
 
+/// The same of the second and third clause of a `for`.
+fn resolve_clauses(test: &mut Option<Expr>, step: &mut Option<Expr>, scope: &Scope<'_>)
+    ensures test { tree_option test.new
+        ≡ resolved_option (in_scope scope.now) (tree_option test.old) }
+    ensures step { tree_option step.new
+        ≡ resolved_option (in_scope scope.now) (tree_option step.old) }
+{
+    resolve_optional(test, scope);
+    resolve_optional(step, scope);
+}
+
 /// The same of expressions.
-fn resolve_exprs(alloc: Global, es: &mut [Expr], scope: &Scope<'_>)
+fn resolve_exprs(es: &mut [Expr], scope: &Scope<'_>)
     ensures { trees es.new ≡ map (resolved_tree (in_scope scope.now)) (trees es.old) }
 {
     for e in es {
-        resolve_expr(alloc, e, scope);
+        resolve_expr(e, scope);
     }
 }
 
 /// The same of an initialiser.
-fn resolve_start(alloc: Global, start: &mut Start, scope: &Scope<'_>)
+fn resolve_start(start: &mut Start, scope: &Scope<'_>)
     ensures { initial start.new ≡ resolved_initial (in_scope scope.now) (initial start.old) }
 {
     match start {
         Start::Bare => {}
-        Start::One(e) => resolve_expr(alloc, e, scope),
-        Start::List(es) => resolve_exprs(alloc, es, scope),
+        Start::One(e) => resolve_expr(e, scope),
+        Start::List(es) => resolve_exprs(es, scope),
     }
 }
 
@@ -217,7 +173,7 @@ fn resolve_declarator(
 {
     d.slot = slot;
     scope.declare(variable_declaration(alloc, d, ty)?)?;
-    resolve_start(alloc, &mut d.start, scope);
+    resolve_start(&mut d.start, scope);
     Ok(())
 }
 
@@ -263,7 +219,7 @@ fn resolve_init(
     match init {
         Init::Empty => Ok(()),
         Init::Act(e) => {
-            resolve_expr(alloc, e, scope);
+            resolve_expr(e, scope);
             Ok(())
         }
         Init::Vars(ty, ds) => resolve_declarators(alloc, ds, *ty, Storage::Automatic, scope, next),
@@ -282,92 +238,62 @@ fn resolve_stmt(
         ≡ resolved_code (in_scope scope.now) next.old (code st.old)) }
     ensures next { OnOk result (next.new ≡ next.old + code_count (code st.old)) }
 {
-    let node = mem::replace(&mut st.node, StmtNode::Empty);
-    st.node = resolved_kind(alloc, node, scope, next)?;
-    Ok(())
-}
-
-/// The kind of a statement with its parts, resolved.
-#[cycle(resolve_stmt)]
-fn resolved_kind(
-    alloc: Global,
-    node: StmtNode,
-    scope: &Scope<'_>,
-    next: &mut u32,
-) -> Result<StmtNode, NoMemory>
-    ensures resolved { IfOk result (λ r. (s : Span)
-        → node_code r s ≡ resolved_code (in_scope scope.now) next.old (node_code node s)) }
-    ensures next { OnOk result ((s : Span) → next.new ≡ next.old + code_count (node_code node s)) }
-{
-    match node {
-        StmtNode::Empty => Ok(StmtNode::Empty),
-        StmtNode::Break => Ok(StmtNode::Break),
-        StmtNode::Continue => Ok(StmtNode::Continue),
-        StmtNode::Act(mut e) => {
-            resolve_expr(alloc, &mut e, scope);
-            Ok(StmtNode::Act(e))
+    match &mut st.node {
+        StmtNode::Empty | StmtNode::Break | StmtNode::Continue => Ok(()),
+        StmtNode::Act(e) => {
+            resolve_expr(e, scope);
+            Ok(())
         }
-        StmtNode::Return(mut value) => {
-            resolve_optional(alloc, &mut value, scope);
-            Ok(StmtNode::Return(value))
+        StmtNode::Return(value) => {
+            resolve_optional(value, scope);
+            Ok(())
         }
-        StmtNode::Block(mut items) => {
-            let mut inner = Scope::inside(alloc, &*scope);
-            resolve_items(alloc, &mut items, &mut inner, next)?;
-            Ok(StmtNode::Block(items))
-        }
-        StmtNode::If {
-            mut test,
-            mut yes,
-            no,
-        } => {
-            resolve_expr(alloc, &mut test, scope);
-            resolve_stmt(alloc, &mut yes, scope, next)?;
+        StmtNode::Block(items) => resolve_block(alloc, items, scope, next),
+        StmtNode::If { test, yes, no } => {
+            resolve_expr(test, scope);
+            resolve_stmt(alloc, yes, scope, next)?;
             match no {
-                None => Ok(StmtNode::If {
-                    test,
-                    yes,
-                    no: None,
-                }),
-                Some(mut no) => {
-                    resolve_stmt(alloc, &mut no, scope, next)?;
-                    Ok(StmtNode::If {
-                        test,
-                        yes,
-                        no: Some(no),
-                    })
-                }
+                None => Ok(()),
+                Some(no) => resolve_stmt(alloc, no, scope, next),
             }
         }
-        StmtNode::While { mut test, mut body } => {
-            resolve_expr(alloc, &mut test, scope);
-            resolve_stmt(alloc, &mut body, scope, next)?;
-            Ok(StmtNode::While { test, body })
+        StmtNode::While { test, body } => {
+            resolve_expr(test, scope);
+            resolve_stmt(alloc, body, scope, next)
         }
-        StmtNode::Do { mut body, mut test } => {
-            resolve_stmt(alloc, &mut body, scope, next)?;
-            resolve_expr(alloc, &mut test, scope);
-            Ok(StmtNode::Do { body, test })
+        StmtNode::Do { body, test } => {
+            resolve_stmt(alloc, body, scope, next)?;
+            resolve_expr(test, scope);
+            Ok(())
         }
         StmtNode::For {
-            mut init,
-            mut test,
-            mut step,
-            mut body,
+            init,
+            test,
+            step,
+            body,
         } => {
             let mut inner = Scope::inside(alloc, &*scope);
-            resolve_init(alloc, &mut init, &mut inner, next)?;
-            resolve_optional(alloc, &mut test, &inner);
-            resolve_optional(alloc, &mut step, &inner);
-            resolve_stmt(alloc, &mut body, &inner, next)?;
-            Ok(StmtNode::For {
-                init,
-                test,
-                step,
-                body,
-            })
+            resolve_init(alloc, init, &mut inner, next)?;
+            resolve_clauses(test, step, &inner);
+            resolve_stmt(alloc, body, &inner, next)
         }
     }
+}
+
+/// Resolves the items of a block, which is a scope of its own.
+#[cycle(resolve_stmt)]
+fn resolve_block(
+    alloc: Global,
+    items: &mut Vec<Item>,
+    scope: &Scope<'_>,
+    next: &mut u32,
+) -> Result<(), NoMemory>
+    ensures resolved { OnOk result (body_of items.new.items
+        ≡ resolved_body [] (in_scope scope.now) next.old (body_of items.old.items)) }
+    ensures next { OnOk result (next.new ≡ next.old + body_count (body_of items.old.items)) }
+{
+    let mut inner = Scope::inside(alloc, &*scope);
+    resolve_items(alloc, items, &mut inner, next)
 }
 
 /// Resolves the items of a block, in the scope of which some names may be declared already.
