@@ -1,11 +1,14 @@
-//! The text of a patch: a pure expression as C text, and a source with an expression put in place of a part.
+//! The text of a patch: a pure expression as C text, a source with what a patch puts in place of a part, and the line that
+//! says what the patch changes.
 #![tactic(auto)]
 
+mod line;
 mod operator;
+mod position;
 mod print;
 mod splice;
-#[cfg(test)]
-mod tests;
 
+pub use line::{Form, edit_line};
+pub use position::line_and_column;
 pub use print::print_expr;
-pub use splice::splice_expr;
+pub use splice::{splice_expr, splice_guarded, splice_joined};

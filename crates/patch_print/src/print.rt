@@ -34,7 +34,7 @@ pub fn put_parenthesized(text: &mut Vec<u8>, e: &Expr) -> Result<(), NoMemory>
 
 /// Appends the text of an expression.
 #[cycle(put)]
-fn put_expr(text: &mut Vec<u8>, e: &Expr) -> Result<(), NoMemory>
+pub fn put_expr(text: &mut Vec<u8>, e: &Expr) -> Result<(), NoMemory>
     ensures { OnOk result (text.new.items ≡ text.old.items ++ printed (tree e.now)) }
 {
     match &e.node {

@@ -1,155 +1,116 @@
--- A patch of a checked program makes a checked program.
-use Rattle.std.proofs.Common.{◌≡◌, ℕ, suc, Bool, true, false, if◌then◌else◌, List, [], ◌∷◌, map, length, get_or, Option, Some, None, refl, sym, ap, subst, ◌∙◌, arith}
-use Rattle.std.specs.Prelude.{slice_get, option_map, Contains}
-use Rattle.std.specs.List.{find}
-use Rattle.c_tree.specs.declared.expr.BinOp.{BinOp}
+-- A patch of a checked program in text order makes a checked program.
+use Rattle.std.proofs.Common.{◌≡◌, ℕ, zero, suc, ◌+◌, List, [], ◌∷◌, map, drop, Option, Some, None, refl, sym, ap, subst, ◌∙◌, add-one, Contains, All}
+use Rattle.std.specs.Prelude.{slice_get, option_map}
+use Rattle.std.specs.List.{flat_map}
+use Rattle.std.proofs.lemmas.List.Elements.{All-nil, All-cons, All-head, All-tail, All-append, All-take, All-contains, All-contains_itself}
 use Rattle.c_tree.specs.declared.place.Loc.{Loc}
-use Rattle.c_tree.specs.Order as order
-use Rattle.c_tree.specs.Order.{TreeIn, ProgramIn}
-use Rattle.c_tree.specs.Parts.{span_of}
-use Rattle.c_tree.specs.Tree.{Tree, constant, name, index, call, unary, cast, binary, choice, assign, bump, comma, hole, hole_after, Code, Outer}
-use Rattle.c_types.specs.declared.scope.Declaration.{Declaration}
-use Rattle.c_types.specs.Evidence.{IsChecked}
-use Rattle.c_types.specs.Expressions.{faults}
-use Rattle.c_types.specs.Kinds.{kind}
-use Rattle.c_types.specs.Programs.{program_faults}
-use Rattle.c_types.specs.Slots.{resolved_tree, resolved}
-use Rattle.c_location.specs.Changes.{replaced as with_new}
-use Rattle.c_location.specs.Locations.{Part, expression, statement, Located, located, locations, is_at, part_at}
+use Rattle.c_tree.specs.Parts.{span_of, span_of_code}
+use Rattle.c_tree.specs.Tree.{Outer}
+use Rattle.c_types.specs.Evidence.{IsChecked, IsOrdered}
+use Rattle.c_location.specs.Laws.{EachNamesOnePlace}
+use Rattle.c_location.specs.Locations.{Part, expression, statement, locations, part_at}
 use Rattle.c_location.specs.OnePlace.{NamesOnePlace, opened, filled}
 use Rattle.c_location.specs.Rewrites.{Rewrite, rewrite, rewritten}
-use Rattle.c_location.specs.Laws.{EachNamesOnePlace}
-use Rattle.schemas.specs.Edits.{with_operator, edited}
 use Rattle.schemas.specs.declared.edit.Edit.{Edit}
-use Rattle.schemas.specs.declared.edit.Edit.TheVariants.{Op}
+use Rattle.schemas.specs.declared.edit.Edit.TheVariants.{Op, Leaf, Plus, Side, Negate, Take, Narrow, Widen, Guard}
+use Rattle.schemas.specs.Candidates.{candidates}
+use Rattle.schemas.specs.Edits.{bound_tree, edited}
+use Rattle.scope_laws.specs.Laws.{ScopesAgree}
 use Rattle.patch_space.specs.declared.patch.Patch.{Patch}
-use Rattle.patch_space.specs.Space.{Change, replaced, change_of, change_there, changed_at, changed, with_change, applied}
+use Rattle.patch_space.specs.Space.{costs, patch_of, patches_from, patches, space, Change, replaced, narrowed, widened, guarded, rewrite_of, change_of, change_there, changed_at, with_change, applied}
+use Rattle.patch_space.specs.Contents.{Contents, IsSpaceOf}
 use Rattle.patch_space.specs.Laws.{PatchedIsChecked}
+use Rattle.patch_space.proofs.CandidateChecked.{candidate_checked}
+use Rattle.patch_space.proofs.EditedFaults.{rewrite_by}
 use Rattle.patch_space.proofs.FoundPart.{part_among}
-use Rattle.patch_space.proofs.KeptFaults.{Keeps, program-kept}
-use Rattle.patch_space.proofs.KeptOrder.{KeepsOrder, program-order}
-use Rattle.patch_space.proofs.KeptSlots.{program-slots}
 
--- another operator in each part that is rewritten
-abbrev operator : BinOp → Rewrite
-operator op = record { tree = with_operator op; code = λ c. c }
+module _ (names : EachNamesOnePlace) (agree : ScopesAgree) (p : List Outer) (h : IsChecked p) (text : IsOrdered p) where
+  -- two rewrites that make the same of the part at a location make the same of the program
+  same_place : (l : Loc) (part : Part) (r q : Rewrite) → part_at l p ≡ Some part → rewrite q part ≡ rewrite r part → rewritten l q p ≡ rewritten l r p
+  same_place l part r q is same =
+      let one : NamesOnePlace l p = names 0 text.end p l text.placed (part_among l p part is) in
+      let here : one.part ≡ part = cc in
+      one.changed q
+      ∙ ap (λ x. filled (rewrite q x) (opened l p)) here
+      ∙ ap (λ x. filled x (opened l p)) same
+      ∙ sym (one.changed r ∙ ap (λ x. filled (rewrite r x) (opened l p)) here)
 
-span-same : (op : BinOp) (e : Tree) → span_of (with_operator op e) ≡ span_of e
-span-same op (constant n word s) = refl
-span-same op (name word slot s) = refl
-span-same op (index word slot e s) = refl
-span-same op (call word x s) = refl
-span-same op (unary f e s) = refl
-span-same op (cast ty e s) = refl
-span-same op (binary f a b s) = refl
-span-same op (choice t a b s) = refl
-span-same op (assign f place e s) = refl
-span-same op (bump before up place s) = refl
-span-same op (comma a b s) = refl
-span-same op hole = refl
-span-same op (hole_after e) = refl
+  module _ (l : Loc) (edit : Edit) (new : IsChecked (rewritten l (rewrite_by edit) p)) where
+    -- a change that makes of the part what the edit makes
+    made_checked : (part : Part) (c : Change) → part_at l p ≡ Some part → rewrite (rewrite_by edit) part ≡ rewrite (rewrite_of c) part
+        → IsChecked (rewritten l (rewrite_of c) p)
+    made_checked part c is same = subst IsChecked (same_place l part (rewrite_of c) (rewrite_by edit) is same) new
 
-kind-same : (op : BinOp) (ds : List Declaration) (e : Tree) → kind ds (with_operator op e) ≡ kind ds e
-kind-same op ds (constant n word s) = refl
-kind-same op ds (name word slot s) = refl
-kind-same op ds (index word slot e s) = refl
-kind-same op ds (call word x s) = refl
-kind-same op ds (unary f e s) = refl
-kind-same op ds (cast ty e s) = refl
-kind-same op ds (binary f a b s) = refl
-kind-same op ds (choice t a b s) = refl
-kind-same op ds (assign f place e s) = refl
-kind-same op ds (bump before up place s) = refl
-kind-same op ds (comma a b s) = refl
-kind-same op ds hole = refl
-kind-same op ds (hole_after e) = refl
+  -- the program with the change of an edit at a part
+  part_checked : (l : Loc) (edit : Edit) (part : Part) → part_at l p ≡ Some part → IsChecked (rewritten l (rewrite_by edit) p)
+      → IsChecked (with_change p (option_map (λ c. (l, c)) (change_of edit part)))
+  part_checked l (Op op) (expression e) is new = made_checked l (Op op) new (expression e) (replaced (edited e (Op op))) is refl
+  part_checked l (Leaf k a) (expression e) is new = made_checked l (Leaf k a) new (expression e) (replaced (edited e (Leaf k a))) is refl
+  part_checked l (Plus up) (expression e) is new = made_checked l (Plus up) new (expression e) (replaced (edited e (Plus up))) is refl
+  part_checked l (Side up) (expression e) is new = made_checked l (Side up) new (expression e) (replaced (edited e (Side up))) is refl
+  part_checked l Negate (expression e) is new = made_checked l Negate new (expression e) (replaced (edited e Negate)) is refl
+  part_checked l (Take a) (expression e) is new = made_checked l (Take a) new (expression e) (replaced (edited e (Take a))) is refl
+  part_checked l (Narrow b) (expression e) is new = made_checked l (Narrow b) new (expression e) (narrowed (bound_tree b (span_of e))) is refl
+  part_checked l (Widen b) (expression e) is new = made_checked l (Widen b) new (expression e) (widened (bound_tree b (span_of e))) is refl
+  part_checked l (Guard b) (statement c) is new = made_checked l (Guard b) new (statement c) (guarded (bound_tree b (span_of_code c))) is refl
+  part_checked l edit part is new = h
 
-faults-same : (op : BinOp) (ds : List Declaration) (e : Tree) → faults ds (with_operator op e) ≡ faults ds e
-faults-same op ds (constant n word s) = refl
-faults-same op ds (name word slot s) = refl
-faults-same op ds (index word slot e s) = refl
-faults-same op ds (call word x s) = refl
-faults-same op ds (unary f e s) = refl
-faults-same op ds (cast ty e s) = refl
-faults-same op ds (binary f a b s) = refl
-faults-same op ds (choice t a b s) = refl
-faults-same op ds (assign f place e s) = refl
-faults-same op ds (bump before up place s) = refl
-faults-same op ds (comma a b s) = refl
-faults-same op ds hole = refl
-faults-same op ds (hole_after e) = refl
+  -- the same of what stands at a location, if anything does
+  there_checked : (l : Loc) (edit : Edit) (o : Option Part) → part_at l p ≡ o → IsChecked (rewritten l (rewrite_by edit) p)
+      → IsChecked (with_change p (option_map (λ c. (l, c)) (change_there edit o)))
+  there_checked l edit None is new = h
+  there_checked l edit (Some part) is new = part_checked l edit part is new
 
-resolved-same : (op : BinOp) (ds : List Declaration) (e : Tree) → resolved_tree ds (with_operator op e) ≡ with_operator op (resolved_tree ds e)
-resolved-same op ds (constant n word s) = refl
-resolved-same op ds (name word slot s) = refl
-resolved-same op ds (index word slot e s) = refl
-resolved-same op ds (call word x s) = refl
-resolved-same op ds (unary f e s) = refl
-resolved-same op ds (cast ty e s) = refl
-resolved-same op ds (binary f a b s) = refl
-resolved-same op ds (choice t a b s) = refl
-resolved-same op ds (assign f place e s) = refl
-resolved-same op ds (bump before up place s) = refl
-resolved-same op ds (comma a b s) = refl
-resolved-same op ds hole = refl
-resolved-same op ds (hole_after e) = refl
+  -- a candidate makes a checked program
+  edit_checked : (l : Loc) (cost : ℕ) (edit : Edit) → Contains (candidates p l cost) edit → IsChecked (with_change p (changed_at p edit (Some l)))
+  edit_checked l cost edit among = there_checked l edit (part_at l p) refl (candidate_checked p l cost edit among agree h text)
 
-order-same : (op : BinOp) {from to : ℕ} {e : Tree} → TreeIn from to e → TreeIn from to (with_operator op e)
-order-same op (order.constant w) = order.constant w
-order-same op (order.name w) = order.name w
-order-same op (order.index w h) = order.index w h
-order-same op (order.call w h) = order.call w h
-order-same op (order.unary w h) = order.unary w h
-order-same op (order.cast w h) = order.cast w h
-order-same op (order.binary w a b) = order.binary w a b
-order-same op (order.choice w t a b) = order.choice w t a b
-order-same op (order.assign w p e) = order.assign w p e
-order-same op (order.bump w h) = order.bump w h
-order-same op (order.comma w a b) = order.comma w a b
+  abbrev MakesChecked : List Loc → Patch → Type 0
+  MakesChecked all patch = IsChecked (applied p all patch)
 
-keeps_operator : (op : BinOp) → Keeps (operator op)
-keeps_operator op = record {
-  span = span-same op;
-  kind = kind-same op;
-  faults = faults-same op;
-  resolved = resolved-same op;
-  code = λ c. refl;
-}
+  -- the location of a number is the first of those that are left after as many
+  nth : {A : Type 0} (n : ℕ) (xs : List A) (y : A) (ys : List A) → drop n xs ≡ y ∷ ys → slice_get xs n ≡ Some y
+  nth zero xs y ys is = ap (λ zs. slice_get zs 0) is
+  nth (suc n) [] y ys is = absurd (cc)
+  nth (suc n) (x ∷ xs) y ys is = nth n xs y ys is
 
-keeps_order : (op : BinOp) → KeepsOrder (operator op)
-keeps_order op = record { tree = λ h. order-same op h; code = λ c. refl }
+  after : {A : Type 0} (n : ℕ) (xs : List A) (y : A) (ys : List A) → drop n xs ≡ y ∷ ys → drop (suc n) xs ≡ ys
+  after zero xs y ys is = ap (λ zs. drop 1 zs) is
+  after (suc n) [] y ys is = absurd (cc)
+  after (suc n) (x ∷ xs) y ys is = after n xs y ys is
 
--- a checked program with another operator at a location is checked
-operator_checked : (p : List Outer) (l : Loc) (op : BinOp) → IsChecked p → IsChecked (rewritten l (operator op) p)
-operator_checked p l op h = record {
-  faultless = λ end. program-kept l (operator op) (keeps_operator op) p end ∙ h.faultless end;
-  is_resolved = program-slots l (operator op) (keeps_operator op) p ∙ ap (rewritten l (operator op)) h.is_resolved;
-  ordered = (h.ordered.0, program-order l (operator op) (keeps_order op) h.ordered.1);
-}
+  -- so do the patches at a location
+  edits_checked : (all : List Loc) (l : Loc) (cost n : ℕ) → slice_get all n ≡ Some l → (edits : List Edit) → All (Contains (candidates p l cost)) edits
+      → All (MakesChecked all) (map (patch_of cost n) edits)
+  edits_checked all l cost n is [] among = All-nil (MakesChecked all)
+  edits_checked all l cost n is (edit ∷ edits) among =
+      let first : IsChecked (with_change p (changed_at p edit (Some l))) = edit_checked l cost edit (All-head (Contains (candidates p l cost)) edit edits among) in
+      All-cons (MakesChecked all) (patch_of cost n edit) (map (patch_of cost n) edits)
+      (subst (λ o. IsChecked (with_change p (changed_at p edit o))) (sym is) first)
+      (edits_checked all l cost n is edits (All-tail (Contains (candidates p l cost)) edit edits among))
 
--- the program with the new expression where an expression with another operator is meant
-same_rewrite : EachNamesOnePlace → (from to : ℕ) (p : List Outer) (l : Loc) (e : Tree) (op : BinOp) → ProgramIn from to p → part_at l p ≡ Some (expression e)
-    → rewritten l (with_new (with_operator op e)) p ≡ rewritten l (operator op) p
-same_rewrite names from to p l e op h is =
-    let one : NamesOnePlace l p = names from to p l h (part_among l p (expression e) is) in
-    let same : one.part ≡ expression e = cc in
-    one.changed (with_new (with_operator op e))
-    ∙ ap (λ x. filled (rewrite (with_new (with_operator op e)) x) (opened l p)) same
-    ∙ sym (one.changed (operator op) ∙ ap (λ x. filled (rewrite (operator op) x) (opened l p)) same)
+  -- and those of a cost
+  cost_checked : (all : List Loc) (cost n : ℕ) (ls : List Loc) → drop n all ≡ ls → All (MakesChecked all) (patches_from p cost n ls)
+  cost_checked all cost n [] is = All-nil (MakesChecked all)
+  cost_checked all cost n (l ∷ ls) is =
+      All-append (MakesChecked all) (map (patch_of cost n) (candidates p l cost)) (patches_from p cost (n + 1) ls)
+      (edits_checked all l cost n (nth n all l ls is) (candidates p l cost) (All-contains_itself (candidates p l cost)))
+      (cost_checked all cost (n + 1) ls (ap (λ k. drop k all) (add-one n) ∙ after n all l ls is))
 
--- a program with the change of an edit at what stands at a location
-edited_checked : EachNamesOnePlace → (p : List Outer) (l : Loc) (edit : Edit) (o : Option Part) → part_at l p ≡ o → IsChecked p
-    → IsChecked (with_change p (option_map (λ c. (l, c)) (change_there edit o)))
-edited_checked names p l edit None is h = h
-edited_checked names p l (Op op) (Some (expression e)) is h =
-    subst IsChecked (sym (same_rewrite names 0 h.ordered.0 p l e op h.ordered.1 is)) (operator_checked p l op h)
-edited_checked names p l edit (Some (statement c)) is h = h
+  costs_checked : (all : List Loc) (cs : List ℕ) → All (MakesChecked all) (flat_map (λ cost. patches_from p cost 0 all) cs)
+  costs_checked all [] = All-nil (MakesChecked all)
+  costs_checked all (c ∷ cs) =
+      All-append (MakesChecked all) (patches_from p c 0 all) (flat_map (λ cost. patches_from p cost 0 all) cs) (cost_checked all c 0 all refl) (costs_checked all cs)
 
--- the same of a location that may be absent
-location_checked : EachNamesOnePlace → (p : List Outer) (edit : Edit) (o : Option Loc) → IsChecked p → IsChecked (with_change p (changed_at p edit o))
-location_checked names p edit None h = h
-location_checked names p edit (Some l) h = edited_checked names p l edit (part_at l p) refl h
+-- each patch of a checked program in text order makes a checked program
+pub patched_checked : EachNamesOnePlace → ScopesAgree → PatchedIsChecked
+patched_checked names agree p h text = costs_checked names agree p h text (locations p) costs
 
--- a patch of a checked program makes a checked program
-pub patched_checked : EachNamesOnePlace → PatchedIsChecked
-patched_checked names p ls patch h = location_checked names p patch.edit (slice_get ls patch.loc) h
+-- so does each of a space of the program
+pub space_checked : PatchedIsChecked → (p : List Outer) (s : Contents) → IsChecked p → IsOrdered p → IsSpaceOf p s → (patch : Patch) → Contains s.patches patch
+    → IsChecked (applied p s.locations patch)
+space_checked law p s h text own patch among =
+    let all : All (λ patch. IsChecked (applied p (locations p) patch)) (space own.max p) =
+    All-take (λ patch. IsChecked (applied p (locations p) patch)) own.max (patches p) (law p h text) in
+    subst (λ ls. IsChecked (applied p ls patch)) (sym own.located)
+    (All-contains (λ patch. IsChecked (applied p (locations p) patch)) (space own.max p) patch all (subst (λ ps. Contains ps patch) own.ranked among))

@@ -1,12 +1,12 @@
 -- The law of patched programs.
 use Rattle.std.specs.Prelude.{List}
-use Rattle.c_tree.specs.declared.place.Loc.{Loc}
+use Rattle.std.specs.List.{All}
 use Rattle.c_tree.specs.Tree.{Outer}
-use Rattle.c_types.specs.Evidence.{IsChecked}
-use Rattle.patch_space.specs.Space.{applied}
-use Rattle.patch_space.specs.declared.patch.Patch.{Patch}
+use Rattle.c_types.specs.Evidence.{IsChecked, IsOrdered}
+use Rattle.c_location.specs.Locations.{locations}
+use Rattle.patch_space.specs.Space.{patches, applied}
 
--- what a patch makes of a checked program is a checked program
+-- what each of its patches makes of a checked program in text order is a checked program
 abbrev pub PatchedIsChecked : Type 0
-PatchedIsChecked =
-    (p : List Outer) (ls : List Loc) (patch : Patch) → IsChecked p → IsChecked (applied p ls patch)
+PatchedIsChecked = (p : List Outer) → IsChecked p → IsOrdered p
+    → All (λ patch. IsChecked (applied p (locations p) patch)) (patches p)

@@ -1,5 +1,6 @@
+pub mod Space
 pub mod Contents
 pub mod Faults
-pub mod Laws
 pub mod Shown
-pub mod Space
+pub mod Laws
+pub mod Ranks

@@ -1,10 +1,12 @@
 //! What a patch makes of a program.
 
 ghost use Rattle.std.specs.Prelude.{◌≡◌, ◌<◌, length, slice_get, Some, IfOk, option_map};
+ghost use Rattle.c_location.specs.Locations.{expression, statement};
 ghost use Rattle.c_location.specs.Shown.{lent};
-ghost use Rattle.c_tree.specs.Views.{program as tree_program};
-ghost use Rattle.c_types.specs.Evidence.{IsChecked};
+ghost use Rattle.c_tree.specs.Views.{tree, code, program as tree_program};
+ghost use Rattle.c_types.specs.Evidence.{IsChecked, IsOrdered};
 ghost use Rattle.c_types.specs.Shown.{tree_of};
+ghost use Rattle.patch_space.specs.Contents.{IsSpaceOf};
 ghost use Rattle.patch_space.specs.Shown.{change, located_change as shown};
 ghost use Rattle.patch_space.specs.Space.{change_of as change_by, changed_at as change_at_location, changed as change_of_patch, with_change as changed_program, applied};
 
@@ -12,18 +14,49 @@ use crate::laws::patched_is_checked;
 use crate::patch::Patch;
 use crate::space::Space;
 use c_location::{Change, Part, change_at, part_at};
-use c_tree::{Loc, NoMemory, Program, copy_program};
+use c_tree::{Expr, Loc, NoMemory, Program, Stmt, copy_program};
 use c_types::Typed;
-use schemas::{Edit, edited};
+use schemas::{Edit, bound_expr, edited_expr};
 use std::alloc::Global;
 
-/// The change that the edit makes of the part. An edit of an expression makes none of a statement.
+/// The change that the edit makes of the expression, if it is one of an expression.
+#[tactic(auto, using(crate::proofs::SpanLemmas::span_of_tree))]
+fn change_of_expr(alloc: Global, e: &Expr, edit: &Edit) -> Result<Option<Change>, NoMemory>
+    ensures { IfOk result (λ r. option_map change r
+        ≡ change_by edit.now (expression (tree e.now))) }
+{
+    match edit {
+        Edit::Op(_)
+        | Edit::Leaf(..)
+        | Edit::Plus(_)
+        | Edit::Side(_)
+        | Edit::Negate
+        | Edit::Take(_) => Ok(Some(Change::Replaced(edited_expr(alloc, e, edit)?))),
+        Edit::Narrow(bound) => Ok(Some(Change::Narrowed(bound_expr(alloc, bound, e.span)?))),
+        Edit::Widen(bound) => Ok(Some(Change::Widened(bound_expr(alloc, bound, e.span)?))),
+        Edit::Guard(_) => Ok(None),
+    }
+}
+
+/// The change that the edit makes of the statement, if it is one of a statement.
+#[tactic(auto, using(crate::proofs::SpanLemmas::span_of_statement))]
+fn change_of_stmt(alloc: Global, st: &Stmt, edit: &Edit) -> Result<Option<Change>, NoMemory>
+    ensures { IfOk result (λ r. option_map change r
+        ≡ change_by edit.now (statement (code st.now))) }
+{
+    match edit {
+        Edit::Guard(bound) => Ok(Some(Change::Guarded(bound_expr(alloc, bound, st.span)?))),
+        _ => Ok(None),
+    }
+}
+
+/// The change that the edit makes of the part, if it can be made there.
 fn change_of(alloc: Global, part: &Part, edit: &Edit) -> Result<Option<Change>, NoMemory>
     ensures { IfOk result (λ r. option_map change r ≡ change_by edit.now (lent part.now)) }
 {
     match part {
-        Part::Expr(e) => Ok(Some(Change::Replaced(edited(alloc, e, edit)?))),
-        Part::Stmt(_) => Ok(None),
+        Part::Expr(e) => change_of_expr(alloc, e, edit),
+        Part::Stmt(st) => change_of_stmt(alloc, st, edit),
     }
 }
 
@@ -82,20 +115,19 @@ fn with_change(
     }
 }
 
-/// The program that the patch makes: a copy, with the one part changed, which is checked as the program is.
+/// The program that the patch makes, of which the caller shows that it is checked: a copy, with the one part changed.
 fn apply_patch(
     alloc: Global,
     program: &Program,
     locations: &[Loc],
     patch: &Patch,
 ) -> Result<Typed, NoMemory>
-    requires { IsChecked (tree_program program.now) }
+    requires { IsChecked (applied (tree_program program.now) locations.now patch.now) }
     ensures { IfOk result (λ r. tree_of r ≡
         applied (tree_program program.now) locations.now patch.now) }
 {
     let there = changed_by(alloc, program, locations, patch)?;
     let patched = with_change(alloc, program, &there)?;
-    patched_is_checked();
     Ok(Typed::new(patched))
 }
 
@@ -113,22 +145,28 @@ pub fn changed(
 ) -> Result<Option<(Loc, Change)>, NoMemory>
     requires { i < length space.now.patches }
     ensures { IfOk result (λ r.
-        option_map (change_of_patch (tree_of program.now) space.now.locations) (slice_get space.now.patches i) ≡ Some (shown r)) }
+        option_map (change_of_patch (tree_of program.now) space.now.locations)
+        (slice_get space.now.patches i) ≡ Some (shown r)) }
 {
     let patch = space.patch(i);
     changed_by(alloc, program.program(), space.all_locations(), patch)
 }
 
-/// The program that the patch of this rank makes.
+/// The program that the patch of this rank makes of one in text order, as `check` gives it, whose space this is. The
+/// new program needn't be in text order.
 ///
 /// # Errors
 ///
 /// `NoMemory` where memory runs out.
 pub fn apply(alloc: Global, program: &Typed, space: &Space, i: u32) -> Result<Typed, NoMemory>
-    requires { i < length space.now.patches }
+    requires ranked { i < length space.now.patches }
+    requires ordered { IsOrdered (tree_of program.now) }
+    requires own { IsSpaceOf (tree_of program.now) space.now }
     ensures { IfOk result (λ r.
-        option_map (applied (tree_of program.now) space.now.locations) (slice_get space.now.patches i) ≡ Some (tree_of r)) }
+        option_map (applied (tree_of program.now) space.now.locations)
+        (slice_get space.now.patches i) ≡ Some (tree_of r)) }
 {
     let patch = space.patch(i);
+    patched_is_checked();
     apply_patch(alloc, program.program(), space.all_locations(), patch)
 }

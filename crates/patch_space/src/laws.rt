@@ -3,11 +3,14 @@
 ghost use Rattle.patch_space.specs.Laws.{PatchedIsChecked};
 
 use c_location::each_names_one_place;
+use scope_laws::scopes_agree;
 
-/// What a patch makes of a checked program is a checked program: it has no fault of scopes and kinds (C11 6.5 to 6.9),
-/// each name in it has the slot of its variable, and its parts stand in text order.
+/// What each of its patches makes of a checked program in text order is a checked program: it has no fault of scopes
+/// and kinds (C11 6.5 to 6.9), and each name in it has the slot of its variable. In text order a location names one
+/// place, so the patch changes one part alone; and what is visible there by the text is what is in scope there.
 pub fn patched_is_checked()
     ensures { PatchedIsChecked }
 {
     each_names_one_place();
+    scopes_agree();
 }

@@ -5,6 +5,7 @@ mod change;
 mod fault;
 mod laws;
 mod patch;
+mod ranks;
 mod space;
 
 pub use change::{apply, changed};

@@ -3,7 +3,7 @@
 use schemas::Edit;
 
 /// A patch of a program.
-#[derive(Debug, Drop, PartialEq, Eq)]
+#[derive(Drop)]
 pub struct Patch {
     /// What it costs: patches that cost less have a lower rank.
     pub cost: u8,

@@ -2,46 +2,53 @@
 
 ghost use Rattle.std.specs.Prelude.{◌≡◌, ◌↔◌, ◌<◌, ◌≤◌, [], ◌++◌, length, map, take, slice_get, IsTrue, Some, IfOk, IfErr, OnOk};
 ghost use Rattle.std.specs.List.{flat_map};
-ghost use Rattle.c_location.specs.Locations.{locations as locations_of, part_at as part};
-ghost use Rattle.c_location.specs.Shown.{lent};
-ghost use Rattle.c_tree.specs.Views.{program as tree_program};
+ghost use Rattle.c_location.specs.Locations.{locations as locations_of};
 ghost use Rattle.c_types.specs.Shown.{tree_of};
+ghost use Rattle.schemas.specs.Candidates.{candidates as candidates_of};
+ghost use Rattle.patch_space.specs.Contents.{IsSpaceOf};
 ghost use Rattle.patch_space.specs.Faults.{Causes};
-ghost use Rattle.patch_space.specs.Space.{costs, edits_at as edits_of_part, edits_there as edits_of_location, patch_of, patches_from, space};
+ghost use Rattle.patch_space.specs.Ranks.{ranks_at};
+ghost use Rattle.patch_space.specs.Space.{costs, has_cost as has_cost_of, patch_of, patches_from, space};
 
 use crate::fault::SpaceFault;
 use crate::patch::Patch;
-use c_location::{Part, part_at};
-use c_tree::{Loc, LocKind, NoMemory, Program};
+use crate::ranks::ranks_by_location;
+use c_tree::{Loc, LocKind, NoMemory};
 use c_types::Typed;
 use schemas::{Edit, LocFault, candidates};
 use std::alloc::Global;
 use std::marker::Model;
 
 /// The costs that patches have, in order.
-const COSTS: [u8; 1] = [1];
+const COSTS: [u8; 6] = [1, 2, 3, 4, 5, 6];
 
 /// The patches of a program by rank, with all locations of the program. Contracts see both lists.
 #[derive(Drop)]
 pub struct Space {
     patches: Vec<Patch>,
     locations: Vec<Loc>,
+    /// For each location the ranks of its patches, rising.
+    ranks: Vec<Vec<u32>>,
 }
 
 impl Model for Space {
-    ghost use Rattle.std.specs.Prelude.{ℕ, ◌<◌, ◌^◌, length};
+    ghost use Rattle.std.specs.Prelude.{◌≡◌, ℕ, ◌<◌, ◌^◌, length, slice_get, Some};
     ghost use Rattle.patch_space.specs.Contents.{Contents};
+    ghost use Rattle.patch_space.specs.Ranks.{lists, ranks_at};
 
     ghost Value = { Contents };
 
     ghost view = { λ s. record { patches = s.patches.items; locations = s.locations.items } };
 
-    ghost invariant = { λ s. (length s.patches.items < 2 ^ 32) × (length s.locations.items < 2 ^ 32) };
+    ghost invariant = { λ s. (length s.patches.items < 2 ^ 32)
+        × (length s.locations.items < 2 ^ 32)
+        × ((l : ℕ) → l < length s.locations.items
+        → slice_get (lists s.ranks.items) l ≡ Some (ranks_at l s.patches.items)) };
 }
 
 impl Space {
     /// The first `max` patches of the program by rank: those of lower cost first, then by their locations in text
-    /// order, then in the order of the edits there. No location after the one that makes them enough is looked at.
+    /// order, then in the order of the candidates there. No location after the one that makes them enough is looked at.
     ///
     /// # Errors
     ///
@@ -49,12 +56,18 @@ impl Space {
     pub fn build(alloc: Global, program: &Typed, max: u32) -> Result<Space, SpaceFault>
         ensures ranked { IfOk result (λ s. s.patches ≡ space max (tree_of program.now)) }
         ensures located { IfOk result (λ s. s.locations ≡ locations_of (tree_of program.now)) }
+        ensures own { IfOk result (IsSpaceOf (tree_of program.now)) }
         ensures few { IfOk result (λ s. length s.locations ≤ 4096) }
         ensures refused { IfErr result (λ fault. Causes fault (locations_of (tree_of program.now))) }
     {
         let locations = located(alloc, program)?;
-        let patches = first_patches(alloc, program.program(), &locations, max as usize)?;
-        Ok(Space { patches, locations })
+        let patches = first_patches(alloc, program, &locations, max as usize)?;
+        let ranks = ranks_by_location(alloc, &patches, locations.len())?;
+        Ok(Space {
+            patches,
+            locations,
+            ranks,
+        })
     }
 
     /// How many patches there are. It takes no memory.
@@ -94,6 +107,14 @@ impl Space {
         &self.locations[l as usize]
     }
 
+    /// The ranks of the patches at the location of this number, rising. It takes no memory.
+    pub fn at_location(&self, l: u32) -> &[u32]
+        requires { l < length self.now.locations }
+        ensures { result.now ≡ ranks_at l self.now.patches }
+    {
+        &self.ranks[l as usize]
+    }
+
     /// All locations of the program, in text order. It takes no memory.
     pub fn all_locations(&self) -> &[Loc]
         ensures { result.now ≡ self.now.locations }
@@ -115,38 +136,31 @@ fn located(alloc: Global, program: &Typed) -> Result<Vec<Loc>, SpaceFault>
     }
 }
 
-/// The edits of this cost at a part that stands at a location of this kind, in their order.
-fn edits_at(alloc: Global, cost: u8, kind: LocKind, part: &Part) -> Result<Vec<Edit>, NoMemory>
-    ensures { IfOk result (λ edits. edits.items ≡ edits_of_part cost kind (lent part.now)) }
+/// Whether locations of this kind have patches of this cost.
+fn has_cost(kind: LocKind, cost: u8) -> bool
+    ensures { result ≡ has_cost_of kind cost }
 {
     match kind {
-        LocKind::Guard | LocKind::Right => Ok(Vec::new(alloc)),
-        LocKind::Cond => match part {
-            Part::Stmt(_) => Ok(Vec::new(alloc)),
-            Part::Expr(e) => {
-                if cost == 1 {
-                    return candidates(alloc, e);
-                }
-                Ok(Vec::new(alloc))
-            }
-        },
+        LocKind::Cond => cost <= 5,
+        LocKind::Right => cost <= 3,
+        LocKind::Guard => cost == 6,
     }
 }
 
-/// The edits of this cost at the location, in their order.
-fn edits_there(
+/// The candidates of this cost at the location. Where its kind has none, the program isn't looked at.
+fn candidates_there(
     alloc: Global,
-    program: &Program,
+    program: &Typed,
     location: &Loc,
     cost: u8,
 ) -> Result<Vec<Edit>, NoMemory>
     ensures { IfOk result (λ edits. edits.items
-        ≡ edits_of_location cost location.now.kind (part location.now (tree_program program.now))) }
+        ≡ candidates_of (tree_of program.now) location.now cost) }
 {
-    match part_at(program, location) {
-        None => Ok(Vec::new(alloc)),
-        Some(part) => edits_at(alloc, cost, location.kind, &part),
+    if has_cost(location.kind, cost) {
+        return candidates(alloc, program, location, cost);
     }
+    Ok(Vec::new(alloc))
 }
 
 /// The patches that make the first `most` of these edits at the location of that number.
@@ -170,7 +184,7 @@ fn patches_of(
 fn add_patches(
     alloc: Global,
     patches: &mut Vec<Patch>,
-    program: &Program,
+    program: &Typed,
     locations: &[Loc],
     cost: u8,
     max: usize,
@@ -178,14 +192,14 @@ fn add_patches(
     requires few { length locations.now ≤ 4096 }
     requires room { length patches.old.items ≤ max }
     ensures { OnOk result (patches.new.items
-        ≡ take max (patches.old.items ++ patches_from (tree_program program.now) cost 0 locations.now)) }
+        ≡ take max (patches.old.items ++ patches_from (tree_of program.now) cost 0 locations.now)) }
 {
     for (i, location) in locations.iter().enumerate() {
         let room = max - patches.len();
         if room == 0 {
             return Ok(());
         }
-        let edits = edits_there(alloc, program, location, cost)?;
+        let edits = candidates_there(alloc, program, location, cost)?;
         let mut more = patches_of(alloc, cost, i as u32, edits, room)?;
         patches.append(&mut more)?;
     }
@@ -195,13 +209,14 @@ fn add_patches(
 /// The first `max` patches at these locations, by rank.
 fn first_patches(
     alloc: Global,
-    program: &Program,
+    program: &Typed,
     locations: &[Loc],
     max: usize,
 ) -> Result<Vec<Patch>, NoMemory>
     requires { length locations.now ≤ 4096 }
     ensures { IfOk result (λ r. r.items
-        ≡ take max (flat_map (λ cost. patches_from (tree_program program.now) cost 0 locations.now) costs)) }
+        ≡ take max (flat_map (λ cost. patches_from (tree_of program.now) cost 0 locations.now)
+        costs)) }
 {
     let mut patches = Vec::new(alloc);
     for cost in COSTS {

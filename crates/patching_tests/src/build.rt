@@ -1,12 +1,18 @@
 //! Programs of tests: trees that are built by hand, and sources that are read and checked.
 
+ghost use Rattle.std.specs.Prelude.{IfOk};
+ghost use Rattle.c_types.specs.Evidence.{IsOrdered};
+ghost use Rattle.c_types.specs.Shown.{tree_of};
+
 use c_lex::lex;
+use c_location::Change;
 use c_parse::parse;
 use c_tree::{
     BinOp, Declarator, Expr, ExprNode, External, Func, Item, NoMemory, Program, Shape, Slot, Span,
     Start, Stmt, StmtNode, Text, Ty,
 };
 use c_types::{Typed, check};
+use patch_print::{splice_expr, splice_guarded, splice_joined};
 use std::alloc::Global;
 use std::test::Fail;
 
@@ -88,12 +94,29 @@ pub fn program(alloc: Global, items: Vec<Item>) -> Result<Program, NoMemory> {
 }
 
 /// The checked program of this source.
-pub fn checked(alloc: Global, source: &[u8]) -> Result<Typed, Fail> {
+pub fn checked(alloc: Global, source: &[u8]) -> Result<Typed, Fail>
+    ensures { IfOk result (λ typed. IsOrdered (tree_of typed)) }
+{
     (source.len() < 65_536).then_some(()).ok_or("too long")?;
     let end = source.len() as u32;
     let tokens = lex(alloc, source)?;
     let tree = parse(alloc, &tokens, end)?;
     Ok(check(alloc, tree, end)?)
+}
+
+/// The source with this change of the text of that span.
+pub fn text_with(
+    alloc: Global,
+    source: &[u8],
+    at: Span,
+    change: &Change,
+) -> Result<Vec<u8>, NoMemory> {
+    match change {
+        Change::Replaced(new) => splice_expr(alloc, source, at, new),
+        Change::Narrowed(bound) => splice_joined(alloc, source, at, BinOp::Both, bound),
+        Change::Widened(bound) => splice_joined(alloc, source, at, BinOp::Either, bound),
+        Change::Guarded(test) => splice_guarded(alloc, source, at, test),
+    }
 }
 
 /// The text of a comparison operator.
@@ -109,7 +132,9 @@ fn spelled(op: BinOp) -> &'static str {
 }
 
 /// `int main(void) { int a = 1; if (a FIRST a) a; if (a SECOND a) a; }`
-pub fn two_conditions(alloc: Global, first: BinOp, second: BinOp) -> Result<Typed, Fail> {
+pub fn two_conditions(alloc: Global, first: BinOp, second: BinOp) -> Result<Typed, Fail>
+    ensures { IfOk result (λ typed. IsOrdered (tree_of typed)) }
+{
     let mut source = b"int main(void) { int a = 1; if (a ".to_vec(alloc)?;
     source.extend_from_slice(spelled(first).as_bytes())?;
     source.extend_from_slice(b" a) a; if (a ")?;
@@ -119,7 +144,9 @@ pub fn two_conditions(alloc: Global, first: BinOp, second: BinOp) -> Result<Type
 }
 
 /// `int main(void) { int a = 1; a; .. }` with so many statements `a;`. It has one location more than these.
-pub fn row_of_statements(alloc: Global, count: u32) -> Result<Typed, Fail> {
+pub fn row_of_statements(alloc: Global, count: u32) -> Result<Typed, Fail>
+    ensures { IfOk result (λ typed. IsOrdered (tree_of typed)) }
+{
     let mut source = b"int main(void) { int a = 1; ".to_vec(alloc)?;
     for _ in 0..count {
         source.extend_from_slice(b"a;")?;

@@ -1,6 +1,8 @@
 //! Programs whose locations are listed by hand.
 
-use crate::build::{declaration, digit, name, program, row_of_statements, span, statements};
+use crate::build::{
+    checked, declaration, digit, name, program, row_of_statements, span, statements,
+};
 use c_location::{LocFault, locations};
 use c_tree::{BinOp, Expr, ExprNode, Init, Item, Loc, LocKind, NoMemory, Span, Stmt, StmtNode};
 use std::alloc::Global;
@@ -165,6 +167,58 @@ fn each_kind_stands_in_text_order(rt: HostRuntime) -> Result<(), Fail> {
                 at: span(from, to)
             }
         );
+    }
+    Ok(())
+}
+
+/// Locations in one another, in parentheses, in lists and in loops.
+const NESTED: &str = "int g = 5;
+int f(int a) { return(a); }
+int main(void) {
+    int a, b = (2);
+    while ((a = b = 1) < 2) { if ((a)) return a = 3; }
+    for (int i = a; i < 2; i = i + 1) if (b) { b; } else break;
+    do b += a = 4; while (!(a)/* a */);
+    int c[2] = {1, a = 6};
+    for (;;) continue;
+}";
+
+/// Their kinds and texts.
+const KINDS_AND_TEXTS: [(LocKind, &str); 21] = [
+    (LocKind::Guard, "return(a);"),
+    (LocKind::Right, "(a)"),
+    (LocKind::Right, "(2)"),
+    (LocKind::Cond, "(a = b = 1) < 2"),
+    (LocKind::Right, "b = 1"),
+    (LocKind::Right, "1"),
+    (LocKind::Cond, "(a)"),
+    (LocKind::Guard, "return a = 3;"),
+    (LocKind::Right, "a = 3"),
+    (LocKind::Right, "3"),
+    (LocKind::Right, "a"),
+    (LocKind::Cond, "i < 2"),
+    (LocKind::Right, "i + 1"),
+    (LocKind::Cond, "b"),
+    (LocKind::Guard, "b;"),
+    (LocKind::Guard, "break;"),
+    (LocKind::Guard, "b += a = 4;"),
+    (LocKind::Right, "4"),
+    (LocKind::Cond, "!(a)"),
+    (LocKind::Right, "6"),
+    (LocKind::Guard, "continue;"),
+];
+
+#[test]
+fn nested_parts_stand_in_text_order(rt: HostRuntime) -> Result<(), Fail> {
+    let alloc = rt.alloc();
+    let program = checked(alloc, NESTED.as_bytes())?;
+    let found = schemas::locations(alloc, &program)?;
+    assert_eq!(rt; found.len(), KINDS_AND_TEXTS.len());
+    for (loc, (kind, text)) in found.iter().zip(KINDS_AND_TEXTS) {
+        let place = loc.at.from as usize..loc.at.to as usize;
+        let part = NESTED.as_bytes().get(place).ok_or("no such place")?;
+        assert_eq!(rt; loc.kind, kind, "{text}");
+        assert_eq!(rt; part, text.as_bytes(), "{text}");
     }
     Ok(())
 }

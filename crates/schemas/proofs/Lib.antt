@@ -1,0 +1,5 @@
+mod ConstantLemmas
+mod SpanLemmas
+mod SameLemmas
+mod Makeable
+mod CandidateLemmas

@@ -1,60 +1,58 @@
-//! The edits that a patch can make at one place.
+//! The edits that a patch can make at a location, and what they make of the part there.
 
-ghost use Rattle.std.specs.Prelude.{◌≡◌, map, IfOk};
-ghost use Rattle.c_tree.specs.Views.{tree};
-ghost use Rattle.schemas.specs.declared.edit.Edit.TheVariants.{Op};
-ghost use Rattle.schemas.specs.Edits.{other_operators as others, edits_of, with_operator as under, edited as after};
+ghost use Rattle.std.specs.Prelude.{◌≡◌, IfOk, option_map};
+ghost use Rattle.c_location.specs.Shown.{lent};
+ghost use Rattle.c_location.specs.Locations.{expression};
+ghost use Rattle.c_tree.specs.Parts.{span_of};
+ghost use Rattle.c_tree.specs.Tree.{binary as binary_tree};
+ghost use Rattle.c_tree.specs.Views.{tree, code};
+ghost use Rattle.schemas.specs.Edits.{bound_tree, with_operator as under, by_one as plus_one, side_by_one as side_plus_one, edited as after, test_before as put_before, made as made_by};
 
-use c_tree::{BinOp, Expr, ExprNode, NoMemory, copy_expr, is_pure};
+use crate::atom::{Atom, Bound, atom_expr, bound_expr, copy_atom, copy_bound};
+use crate::build;
+use crate::constants::one;
+use crate::leaves::with_leaf;
+use c_location::Part;
+use c_tree::{BinOp, Expr, ExprNode, NoMemory, Stmt, UnOp, copy_expr};
 use std::alloc::Global;
 
-/// A change of one expression.
-#[derive(Debug, Drop, PartialEq, Eq)]
+/// A change of the part at one location.
+#[derive(Drop)]
 pub enum Edit {
     /// The operator at the top becomes this one.
     Op(BinOp),
+    /// The atom stands in place of the constant or variable of that number, counted from 0 in text order.
+    Leaf(u32, Atom),
+    /// The right side becomes itself plus 1, or minus 1.
+    Plus(bool),
+    /// The right operand at the top of a condition becomes itself plus 1, or minus 1.
+    Side(bool),
+    /// The condition is negated.
+    Negate,
+    /// The right side becomes the atom.
+    Take(Atom),
+    /// The condition becomes `old && bound`.
+    Narrow(Bound),
+    /// The condition becomes `old || bound`.
+    Widen(Bound),
+    /// An `if` with the bound is put before the statement.
+    Guard(Bound),
 }
 
-/// The operators that may stand in place of this one: the other comparisons (C11 6.5.8, 6.5.9), or the other of `&&`
-/// and `||` (C11 6.5.13, 6.5.14).
-fn other_operators(op: BinOp) -> &'static [BinOp]
-    ensures { result.now ≡ others op }
+/// A copy of the edit.
+pub fn copy_edit(alloc: Global, edit: &Edit) -> Result<Edit, NoMemory>
+    ensures { IfOk result (λ copy. copy ≡ edit.now) }
 {
-    use BinOp::{Both, Either, Eq, Ge, Gt, Le, Lt, Ne};
-    match op {
-        Eq => &[Ne, Lt, Le, Gt, Ge],
-        Ne => &[Eq, Lt, Le, Gt, Ge],
-        Lt => &[Eq, Ne, Le, Gt, Ge],
-        Le => &[Eq, Ne, Lt, Gt, Ge],
-        Gt => &[Eq, Ne, Lt, Le, Ge],
-        Ge => &[Eq, Ne, Lt, Le, Gt],
-        Both => &[Either],
-        Either => &[Both],
-        _ => &[],
-    }
-}
-
-/// The edits that replace this operator by one that may stand in its place.
-fn operator_edits(alloc: Global, op: BinOp) -> Result<Vec<Edit>, NoMemory>
-    ensures { IfOk result (λ edits. edits.items ≡ map (λ new. Op new) (others op)) }
-{
-    other_operators(op)
-        .iter()
-        .map(|new| Edit::Op(*new))
-        .collect(alloc)
-}
-
-/// The edits of cost 1 of a condition, in their order. Where it has no call, assignment or bump: of a comparison the
-/// five others, of `&&` and of `||` the other one; and else none.
-pub fn candidates(alloc: Global, e: &Expr) -> Result<Vec<Edit>, NoMemory>
-    ensures { IfOk result (λ edits. edits.items ≡ edits_of (tree e.now)) }
-{
-    if !is_pure(e) {
-        return Ok(Vec::new(alloc));
-    }
-    match &e.node {
-        ExprNode::Binary { op, .. } => operator_edits(alloc, *op),
-        _ => Ok(Vec::new(alloc)),
+    match edit {
+        Edit::Op(op) => Ok(Edit::Op(*op)),
+        Edit::Leaf(k, atom) => Ok(Edit::Leaf(*k, copy_atom(alloc, atom)?)),
+        Edit::Plus(up) => Ok(Edit::Plus(*up)),
+        Edit::Side(up) => Ok(Edit::Side(*up)),
+        Edit::Negate => Ok(Edit::Negate),
+        Edit::Take(atom) => Ok(Edit::Take(copy_atom(alloc, atom)?)),
+        Edit::Narrow(bound) => Ok(Edit::Narrow(copy_bound(alloc, bound)?)),
+        Edit::Widen(bound) => Ok(Edit::Widen(copy_bound(alloc, bound)?)),
+        Edit::Guard(bound) => Ok(Edit::Guard(copy_bound(alloc, bound)?)),
     }
 }
 
@@ -63,23 +61,97 @@ fn with_operator(alloc: Global, e: &Expr, op: BinOp) -> Result<Expr, NoMemory>
     ensures { IfOk result (λ copy. tree copy ≡ under op (tree e.now)) }
 {
     match &e.node {
-        ExprNode::Binary { left, right, .. } => Ok(Expr {
-            node: ExprNode::Binary {
-                op,
-                left: Box::new(alloc, copy_expr(alloc, left)?)?,
-                right: Box::new(alloc, copy_expr(alloc, right)?)?,
-            },
-            span: e.span,
-        }),
+        ExprNode::Binary { left, right, .. } => {
+            let left = copy_expr(alloc, left)?;
+            let right = copy_expr(alloc, right)?;
+            build::binary(alloc, op, left, right, e.span)
+        }
         _ => Ok(copy_expr(alloc, e)?),
     }
 }
 
-/// A copy of the expression with the edit made. It covers the same text.
-pub fn edited(alloc: Global, e: &Expr, edit: &Edit) -> Result<Expr, NoMemory>
-    ensures { IfOk result (λ copy. tree copy ≡ after (tree e.now) edit.now) }
+/// A copy of the expression, plus 1 or minus 1.
+#[tactic(auto, using(crate::proofs::SpanLemmas::span_of_tree))]
+fn by_one(alloc: Global, e: &Expr, up: bool) -> Result<Expr, NoMemory>
+    ensures { IfOk result (λ r. tree r ≡ plus_one up (tree e.now)) }
+{
+    let op = match up {
+        true => BinOp::Add,
+        false => BinOp::Sub,
+    };
+    let number = one(alloc)?;
+    let right = atom_expr(alloc, &number, e.span)?;
+    build::binary(alloc, op, copy_expr(alloc, e)?, right, e.span)
+}
+
+/// A copy of the expression with the right operand at its top plus 1 or minus 1, if it has one.
+fn side_by_one(alloc: Global, e: &Expr, up: bool) -> Result<Expr, NoMemory>
+    ensures { IfOk result (λ r. tree r ≡ side_plus_one up (tree e.now)) }
+{
+    match &e.node {
+        ExprNode::Binary { op, left, right } => {
+            let right = by_one(alloc, right, up)?;
+            build::binary(alloc, *op, copy_expr(alloc, left)?, right, e.span)
+        }
+        _ => Ok(copy_expr(alloc, e)?),
+    }
+}
+
+/// The expression joined to the bound.
+#[tactic(auto, using(crate::proofs::SpanLemmas::span_of_tree))]
+fn joined(alloc: Global, e: &Expr, op: BinOp, bound: &Bound) -> Result<Expr, NoMemory>
+    ensures { IfOk result (λ r. tree r
+        ≡ binary_tree op (tree e.now) (bound_tree bound.now (span_of (tree e.now))) (span_of (tree e.now))) }
+{
+    let right = bound_expr(alloc, bound, e.span)?;
+    build::binary(alloc, op, copy_expr(alloc, e)?, right, e.span)
+}
+
+/// The new expression in place of this one. It covers the same text. An edit of a statement leaves it.
+#[tactic(auto, using(crate::proofs::SpanLemmas::span_of_tree))]
+pub fn edited_expr(alloc: Global, e: &Expr, edit: &Edit) -> Result<Expr, NoMemory>
+    ensures { IfOk result (λ r. tree r ≡ after (tree e.now) edit.now) }
 {
     match edit {
         Edit::Op(op) => with_operator(alloc, e, *op),
+        Edit::Leaf(k, atom) => with_leaf(alloc, e, *k, atom),
+        Edit::Plus(up) => by_one(alloc, e, *up),
+        Edit::Side(up) => side_by_one(alloc, e, *up),
+        Edit::Negate => build::unary(alloc, UnOp::Flip, copy_expr(alloc, e)?, e.span),
+        Edit::Take(atom) => atom_expr(alloc, atom, e.span),
+        Edit::Narrow(bound) => joined(alloc, e, BinOp::Both, bound),
+        Edit::Widen(bound) => joined(alloc, e, BinOp::Either, bound),
+        Edit::Guard(_) => Ok(copy_expr(alloc, e)?),
+    }
+}
+
+/// The new expression in place of this one, if the edit is one of an expression.
+fn edited_part(alloc: Global, e: &Expr, edit: &Edit) -> Result<Option<Expr>, NoMemory>
+    ensures { IfOk result (λ r. option_map tree r ≡ made_by (expression (tree e.now)) edit.now) }
+{
+    match edit {
+        Edit::Guard(_) => Ok(None),
+        _ => Ok(Some(edited_expr(alloc, e, edit)?)),
+    }
+}
+
+/// The test that the edit puts before the statement, if it is one of a statement.
+#[tactic(auto, using(crate::proofs::SpanLemmas::span_of_statement))]
+fn test_before(alloc: Global, st: &Stmt, edit: &Edit) -> Result<Option<Expr>, NoMemory>
+    ensures { IfOk result (λ r. option_map tree r ≡ put_before (code st.now) edit.now) }
+{
+    match edit {
+        Edit::Guard(bound) => Ok(Some(bound_expr(alloc, bound, st.span)?)),
+        _ => Ok(None),
+    }
+}
+
+/// The expression that the edit makes at the part: a new one in place of an expression, the test before a statement.
+pub fn made(alloc: Global, part: &Part, edit: &Edit) -> Result<Option<Expr>, NoMemory>
+    ensures { IfOk result (λ r. option_map tree r ≡ made_by (lent part.now) edit.now) }
+{
+    match part {
+        Part::Expr(e) => edited_part(alloc, e, edit),
+        Part::Stmt(st) => test_before(alloc, st, edit),
     }
 }

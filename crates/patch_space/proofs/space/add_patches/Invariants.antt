@@ -1,5 +1,5 @@
 use Rattle.std.proofs.Common.{◌≡◌, ◌≤◌, ◌++◌, length, take, drop}
-use Rattle.c_tree.specs.Views.{program}
+use Rattle.c_types.specs.Shown.{tree_of}
 use Rattle.patch_space.specs.Space.{patches_from}
 use Rattle.patch_space.proofs.space.add_patches.Given as goal
 
@@ -7,4 +7,4 @@ use Rattle.patch_space.proofs.space.add_patches.Given as goal
 abbrev pub invariant-loop-i : goal.invariant-loop-i
 invariant-loop-i l =
     (length l.patches.items ≤ l.max)
-    × (take l.max (l.patches.items ++ patches_from (program l.program) l.cost l.i (drop l.i l.locations)) ≡ take l.max (l.initial.patches.items ++ patches_from (program l.program) l.cost 0 l.locations))
+    × (take l.max (l.patches.items ++ patches_from (tree_of l.program) l.cost l.i (drop l.i l.locations)) ≡ take l.max (l.initial.patches.items ++ patches_from (tree_of l.program) l.cost 0 l.locations))
