@@ -1,0 +1,5 @@
+pub mod SameKinds
+pub mod Scopes
+pub mod Expressions
+pub mod Statements
+pub mod Programs

@@ -1,0 +1,34 @@
+-- Laws of programs that are the same but for spans, slots and the spelling of constants.
+use Rattle.std.specs.Prelude.{◌≡◌, ℕ, List, [], map}
+use Rattle.c_tree.specs.Tree.{Outer, bare_program}
+use Rattle.c_types.specs.declared.fault.Fault.{Fault}
+use Rattle.c_types.specs.declared.fault.FaultKind.{FaultKind}
+use Rattle.c_types.specs.Evidence.{IsChecked}
+use Rattle.c_types.specs.Programs.{program_faults}
+use Rattle.c_types.specs.Slots.{resolved}
+
+-- the kinds of faults, without their places
+abbrev pub kinds_of : List Fault → List FaultKind
+kinds_of = map (λ f. f.kind)
+
+-- they have faults of the same kinds, in the same order, whatever the lengths of their sources
+abbrev pub SameFaults : Type 0
+SameFaults = (p q : List Outer) (m n : ℕ) → bare_program p ≡ bare_program q
+    → kinds_of (program_faults p m) ≡ kinds_of (program_faults q n)
+
+-- so where one has none, neither has the other
+abbrev pub FaultlessAlike : Type 0
+FaultlessAlike = (p q : List Outer) (m n : ℕ) → bare_program p ≡ bare_program q
+    → program_faults p m ≡ [] → program_faults q n ≡ []
+
+-- the program has no fault, and resolved it is a checked program, which is q but for spans, slots
+-- and the spelling of constants
+pub record ChecksAs (q p : List Outer) : Type 0 where
+  pub faultless : (end : ℕ) → program_faults p end ≡ []
+  pub checked : IsChecked (resolved p)
+  pub is_same : bare_program (resolved p) ≡ bare_program q
+
+-- so it is with each program that is the same as a checked one
+abbrev pub CheckedAlike : Type 0
+CheckedAlike =
+    (q p : List Outer) → IsChecked q → bare_program p ≡ bare_program q → ChecksAs q p

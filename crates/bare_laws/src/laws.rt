@@ -1,0 +1,23 @@
+//! The laws of programs that are the same but for spans, slots and the spelling of constants, each
+//! as the contract of a function.
+
+ghost use Rattle.bare_laws.specs.Laws.{SameFaults, FaultlessAlike, CheckedAlike};
+
+use c_types::{resolved_is_checked, resolving_changes_slots};
+
+/// Programs that are the same but for spans, slots and the spelling of constants have faults of the
+/// same kinds, in the same order. So where one has none, neither has the other.
+pub fn same_faults()
+    ensures kinds { SameFaults }
+    ensures none { FaultlessAlike }
+{}
+
+/// A program that is the same as a checked one but for spans, slots and the spelling of constants
+/// has no fault, and resolved it is a checked program that is still the same.
+pub fn checked_alike()
+    ensures { CheckedAlike }
+{
+    same_faults();
+    resolved_is_checked();
+    resolving_changes_slots();
+}
