@@ -64,8 +64,12 @@ const REPAIRED: &str = "int main(void) {
 ";
 
 /// A program that writes what it reads.
-const ECHO: &str =
-    "int main(void) { int c; c = getchar(); while (c >= 0) { putchar(c); c = getchar(); } return 0; }";
+const ECHO: &str = "int main(void) {
+    int c = getchar();
+    while (c >= 0) { putchar(c); c = getchar(); }
+    return 0;
+}
+";
 
 /// A program that does nothing.
 const IDLE: &str = "int main(void) { return 0; }";
@@ -115,7 +119,8 @@ fn words_of(alloc: Global, line: &str) -> Result<Vec<String>, AllocError> {
     Ok(words)
 }
 
-// Calls with the words of this line. A read gives at most 4,096 bytes, and a write takes at most ten.
+// Calls with the words of this line. A read gives at most 4,096 bytes, and a write takes at most
+// ten.
 fn call(
     rt: &impl Abort,
     alloc: Global,
@@ -146,9 +151,9 @@ fn call(
 
 const SOUND: &str = "nothing to repair\n";
 
-const USAGE: &str = "usage: f1x repair PROGRAM SUITE [--limit=N]\n";
+const USAGE: &str = "usage: f1x repair PROGRAM SUITE [--limit=N] [--max-patches=N] [--edit]\n";
 
-const REFUSED: &str = "p.c: unsupported\n";
+const REFUSED: &str = "p.c: too many locations\n";
 
 const NO_PROGRAM: &str = "f1x: cannot read p.c\n";
 
@@ -215,11 +220,12 @@ const FILES: [Row; 19] = [
         SOUND,
         "",
     ),
+    // The value of the `return` is a constant, and the first other one is 0.
     (
         "int main(void) { return 1; }",
         r#"{"tests":[{"output":""}]}"#,
-        1,
-        "none\n",
+        0,
+        "int main(void) { return (0); }",
         "",
     ),
     (
@@ -308,8 +314,8 @@ fn judges_lengths(rt: HostRuntime) -> Result<(), Fail> {
     Ok(())
 }
 
-/// The words, the failing calls, and how the call must end. The calls of the files are an opening, a read of the bytes and
-/// a read of the end, for each file.
+/// The words, the failing calls, and how the call must end. The calls of the files are an opening,
+/// a read of the bytes and a read of the end, for each file.
 const FAILED: [(&str, u64, u64, u64, u8, &str, &str); 21] = [
     (LINE, 0, NEVER, NEVER, 6, "", NO_PROGRAM),
     (LINE, 1, NEVER, NEVER, 6, "", NO_PROGRAM),
@@ -352,7 +358,8 @@ fn reports_failed_calls(rt: HostRuntime) -> Result<(), Fail> {
     Ok(())
 }
 
-// A text of which one piece stands so many times before the middle, and another as many times after it.
+// A text of which one piece stands so many times before the middle, and another as many times after
+// it.
 fn nested(
     alloc: Global,
     head: &str,
@@ -372,7 +379,8 @@ fn nested(
     Ok(bytes)
 }
 
-/// Sources at a limit and beyond it: the repeated pieces, how often, and the message, where there is one.
+/// Sources at a limit and beyond it: the repeated pieces, how often, and the message, where there
+/// is one.
 const SOURCES: [(&str, &str, &str, usize, &str); 4] = [
     ("if (a < a) {", "a = 1;", "}", 31, ""),
     (
@@ -434,6 +442,19 @@ fn keeps_its_nesting(rt: HostRuntime) -> Result<(), Fail> {
             ";}",
             count,
         )?;
+        let bytes = Bytes {
+            program: &program,
+            suite: NO_TESTS.as_bytes(),
+        };
+        call(&rt, rt.alloc(), LINE, bytes, SURE, judged(message))?;
+    }
+    Ok(())
+}
+
+#[test]
+fn keeps_its_locations(rt: HostRuntime) -> Result<(), Fail> {
+    for (count, message) in [(4_096, ""), (4_097, REFUSED)] {
+        let program = nested(rt.alloc(), "int main(void){", ("0;", "", ""), "}", count)?;
         let bytes = Bytes {
             program: &program,
             suite: NO_TESTS.as_bytes(),

@@ -1,5 +1,5 @@
-//! What crosses the crates below: the first faults of sources by the calls that read them, and how many patches of a
-//! large program are tried.
+//! What crosses the crates below: the first faults of sources by the calls that read them, and how
+//! many patches of a large program are tried.
 
 use c_lex::{LexFault, lex};
 use c_parse::{ParseFault, parse};
@@ -8,7 +8,9 @@ use patch_space::Space;
 use std::alloc::{AllocError, Global};
 use std::test::Fail;
 
-// A program with so many conditions, each of a comparison.
+// A program with so many conditions. Each has 36 patches: the five other comparisons; 0 and 1 in
+// place of either side, and one more and one less than the right side; its negation; and with `&&`
+// and with `||` each of the twelve comparisons of the variable with 0 and with 1.
 fn program_of(alloc: Global, conditions: usize) -> Result<Vec<u8>, AllocError> {
     let mut source = b"int main(void) { int a; ".to_vec(alloc)?;
     for _ in 0..conditions {
@@ -20,13 +22,19 @@ fn program_of(alloc: Global, conditions: usize) -> Result<Vec<u8>, AllocError> {
 
 #[test]
 fn tries_the_first_patches_by_rank(rt: HostRuntime) -> Result<(), Fail> {
-    for (conditions, patches) in [(3_276, 16_380u32), (3_277, 16_384)] {
+    for (conditions, most, patches) in [
+        (1, 100, 36u32),
+        (2, 100, 72),
+        (3, 100, 100),
+        (3, 1_000, 108),
+        (3, 1, 1),
+    ] {
         let source = program_of(rt.alloc(), conditions)?;
         assert!(rt; source.len() < 65_536);
         let end = source.len() as u32;
         let tokens = lex(rt.alloc(), &source)?;
         let program = check(rt.alloc(), parse(rt.alloc(), &tokens, end)?, end)?;
-        match Space::build(rt.alloc(), &program, 16_384) {
+        match Space::build(rt.alloc(), &program, most) {
             Ok(space) => assert_eq!(rt; space.len(), patches),
             Err(_) => assert!(rt; false),
         }

@@ -20,10 +20,10 @@ use Rattle.c_types.specs.Slots.{resolved}
 use Rattle.c_types.proofs.OneFirst as kind
 use Rattle.repair_job.specs.Patches.{HasFewLocations}
 use Rattle.repair_cli.specs.Accepted.{IsRead, IsWellTyped, IsProgram}
-use Rattle.repair_cli.specs.Faults.{IsFault, fault_message}
+use Rattle.repair_cli.specs.Faults.{IsFault, HasManyLocations, fault_message}
 use Rattle.repair_cli.specs.Laws.{OneProgram, OneFault, OneRefusal, NeverBoth}
 use Rattle.repair_cli.specs.declared.fault.ProgramFault.{ProgramFault}
-use Rattle.repair_cli.specs.declared.fault.ProgramFault.TheVariants.{Lex, Parse, Kinds, Unsupported}
+use Rattle.repair_cli.specs.declared.fault.ProgramFault.TheVariants.{Lex, Parse, Kinds, TooManyLocations}
 
 -- the tokens of a source are the only ones
 pub one_cut : (bytes : List ℕ) (ts us : Tokens) → Lexes bytes (Ok ts) → Lexes bytes (Ok us) → ts ≡ us
@@ -86,7 +86,8 @@ no_kind end tree f n typed x = kind.no_cause f n (subst (CausedBy f) typed x)
 data OfTree (bytes : List ℕ) (tree : List Outer) : ProgramFault → Type 0 where
   kinds_of : (f : TypeFault) → f ≢ kinds.NoMemory → CausedBy f (program_faults tree (length bytes))
       → OfTree bytes tree (Kinds f)
-  size_of : IsWellTyped (length bytes) tree → ¬ HasFewLocations (resolved tree) → OfTree bytes tree Unsupported
+  size_of : (n : ℕ) → IsWellTyped (length bytes) tree → HasManyLocations n (resolved tree)
+      → OfTree bytes tree (TooManyLocations n)
 
 tree_fault : (bytes : List ℕ) (tree : List Outer) (f : ProgramFault) (r : IsRead bytes tree) → IsFault bytes f → OfTree bytes tree f
 tree_fault bytes tree _ r (IsFault.too_long a) = let s = r.cut.short in absurd (omega (arith, a, s))
@@ -96,18 +97,18 @@ tree_fault bytes tree _ r (IsFault.of_tokens f ts n c x) =
     absurd (no_cause (length bytes) ts tree f n (subst (λ us. Derives 64 us tree) same r.derived) x)
 tree_fault bytes tree _ r (IsFault.of_kinds f t n read x) =
     kinds_of f n (same_causes (length bytes) f t tree (one_tree bytes t tree read r) x)
-tree_fault bytes tree _ r (IsFault.of_size t read typed many) =
+tree_fault bytes tree _ r (IsFault.of_size n t read typed many) =
     let same = one_tree bytes t tree read r in
-    size_of (subst (IsWellTyped (length bytes)) same typed)
-    (subst (λ u. ¬ HasFewLocations (resolved u)) same many)
+    size_of n (subst (IsWellTyped (length bytes)) same typed)
+    (subst (λ u. HasManyLocations n (resolved u)) same many)
 
 -- two faults of one tree are one
 one_of_tree : (bytes : List ℕ) (tree : List Outer) (f g : ProgramFault) → OfTree bytes tree f → OfTree bytes tree g → f ≡ g
 one_of_tree bytes tree _ _ (kinds_of f n x) (kinds_of g m y) =
     ap (λ h. Kinds h) (kind.one_cause (program_faults tree (length bytes)) f g n m x y)
-one_of_tree bytes tree _ _ (kinds_of f n x) (size_of typed many) = absurd (no_kind (length bytes) tree f n typed x)
-one_of_tree bytes tree _ _ (size_of typed many) (kinds_of f n x) = absurd (no_kind (length bytes) tree f n typed x)
-one_of_tree bytes tree _ _ (size_of a b) (size_of c d) = refl
+one_of_tree bytes tree _ _ (kinds_of f n x) (size_of k typed many) = absurd (no_kind (length bytes) tree f n typed x)
+one_of_tree bytes tree _ _ (size_of k typed many) (kinds_of f n x) = absurd (no_kind (length bytes) tree f n typed x)
+one_of_tree bytes tree _ _ (size_of k a b) (size_of l c d) = ap (λ h. TooManyLocations h) (b.0 ∙ sym d.0)
 
 -- the first fault of a source is one, where one of the two is of its tree
 one_with_tree : (bytes : List ℕ) (tree : List Outer) (f g : ProgramFault) → IsRead bytes tree → IsFault bytes f → IsFault bytes g → f ≡ g
@@ -116,9 +117,9 @@ one_with_tree bytes tree f g r a b = one_of_tree bytes tree f g (tree_fault byte
 -- the first fault of a source is one
 pub one_fault : OneFault
 one_fault bytes f _ a (IsFault.of_kinds g t n r x) = one_with_tree bytes t f (Kinds g) r a (IsFault.of_kinds g t n r x)
-one_fault bytes f _ a (IsFault.of_size t r x y) = one_with_tree bytes t f Unsupported r a (IsFault.of_size t r x y)
+one_fault bytes f _ a (IsFault.of_size n t r x y) = one_with_tree bytes t f (TooManyLocations n) r a (IsFault.of_size n t r x y)
 one_fault bytes _ g (IsFault.of_kinds f t n r x) b = one_with_tree bytes t (Kinds f) g r (IsFault.of_kinds f t n r x) b
-one_fault bytes _ g (IsFault.of_size t r x y) b = one_with_tree bytes t Unsupported g r (IsFault.of_size t r x y) b
+one_fault bytes _ g (IsFault.of_size n t r x y) b = one_with_tree bytes t (TooManyLocations n) g r (IsFault.of_size n t r x y) b
 one_fault bytes _ _ (IsFault.too_long a) (IsFault.too_long b) = refl
 one_fault bytes _ _ (IsFault.too_long a) (IsFault.of_text g n s b) = absurd (omega (arith, a, s))
 one_fault bytes _ _ (IsFault.too_long a) (IsFault.of_tokens g ts n c y) = let s = c.short in absurd (omega (arith, a, s))
@@ -142,7 +143,9 @@ one_refusal name bytes t u a b =
 -- a source that states a program has no fault of its tree
 no_fault : (bytes : List ℕ) (p : List Outer) (f : ProgramFault) (i : IsProgram bytes p) → OfTree bytes i.tree f → ⊥
 no_fault bytes p _ i (kinds_of f n x) = no_kind (length bytes) i.tree f n i.runnable.typed x
-no_fault bytes p _ i (size_of typed many) = many (subst HasFewLocations i.runnable.is_resolved i.runnable.few)
+no_fault bytes p _ i (size_of n typed many) =
+    let few = subst HasFewLocations i.runnable.is_resolved i.runnable.few in
+    absurd (omega (arith, few, many.1))
 
 -- a source that states a program has no fault
 faultless : (bytes : List ℕ) (p : List Outer) (f : ProgramFault) → IsProgram bytes p → IsFault bytes f → ⊥

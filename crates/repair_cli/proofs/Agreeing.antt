@@ -12,6 +12,7 @@ use Rattle.repair_job.specs.Job.{Job}
 use Rattle.repair_job.specs.Answers.{IsRight}
 use Rattle.repair_job.specs.Texts.{IsText}
 use Rattle.repair_job.specs.declared.answer.Answer.{Answer}
+use Rattle.repair_job.specs.declared.answer.Shown.{Shown}
 use Rattle.repair_job.specs.declared.answer.Answer.TheVariants as answer
 use Rattle.repair_job.proofs.OneAnswer.{one_right, one_text}
 use Rattle.repair_cli.specs.Accepted.{IsProgram, IsSuite}
@@ -33,15 +34,17 @@ use Rattle.repair_cli.proofs.Commands.{one_asked}
 -- ---- one job
 
 -- a job of these parts
-abbrev made : List ℕ → List Outer → List Test → ℕ → ℕ → Job
-made source program tests limit most = record { source = source; program = program; tests = tests; limit = limit; most_patches = most }
+abbrev made : List ℕ → List Outer → List Test → ℕ → ℕ → Shown → Job
+made source program tests limit most shown =
+    record { source = source; program = program; tests = tests; limit = limit; most_patches = most; shown = shown }
 
 -- jobs with the same parts are the same
-same_job : (j k : Job) → j.source ≡ k.source → j.program ≡ k.program → j.tests ≡ k.tests → j.limit ≡ k.limit → j.most_patches ≡ k.most_patches → j ≡ k
-same_job j k s p t l m =
-    ap (λ x. made x j.program j.tests j.limit j.most_patches) s ∙ ap (λ x. made k.source x j.tests j.limit j.most_patches) p
-    ∙ ap (λ x. made k.source k.program x j.limit j.most_patches) t ∙ ap (λ x. made k.source k.program k.tests x j.most_patches) l
-    ∙ ap (λ x. made k.source k.program k.tests k.limit x) m
+same_job : (j k : Job) → j.source ≡ k.source → j.program ≡ k.program → j.tests ≡ k.tests → j.limit ≡ k.limit → j.most_patches ≡ k.most_patches
+    → j.shown ≡ k.shown → j ≡ k
+same_job j k s p t l m h =
+    ap (λ x. made x j.program j.tests j.limit j.most_patches j.shown) s ∙ ap (λ x. made k.source x j.tests j.limit j.most_patches j.shown) p
+    ∙ ap (λ x. made k.source k.program x j.limit j.most_patches j.shown) t ∙ ap (λ x. made k.source k.program k.tests x j.most_patches j.shown) l
+    ∙ ap (λ x. made k.source k.program k.tests k.limit x j.shown) m ∙ ap (λ x. made k.source k.program k.tests k.limit k.most_patches x) h
 
 -- a known file of one name has one content
 one_content : (files : Files) (a b : List ℕ) (x y : List ℕ) → a ≡ b → file_named files a ≡ Some x → file_named files b ≡ Some y → x ≡ y
@@ -76,7 +79,8 @@ one_job words files m n m' n' a b t u x y =
     let limit : x.job.limit ≡ y.job.limit =
     i.limit_is ∙ ap (λ l. unwrap_or i.asked.options.limit l) own ∙ ap (λ (k : Asked). unwrap_or k.options.limit j.limit) asked ∙ sym j.limit_is in
     let most : x.job.most_patches ≡ y.job.most_patches = i.patches_are ∙ ap (λ (k : Asked). k.options.patches) asked ∙ sym j.patches_are in
-    same_job x.job y.job source program tests limit most
+    let shown : x.job.shown ≡ y.job.shown = i.shown_is ∙ ap (λ (k : Asked). k.options.shown) asked ∙ sym j.shown_is in
+    same_job x.job y.job source program tests limit most shown
 
 -- where the files are known, one answer at most is right for them, with one text
 pub one_reply : OneReply

@@ -5,8 +5,9 @@ use Rattle.std.specs.List.{list_all}
 use Rattle.std.specs.Str.{bytes_eq}
 use Rattle.std.specs.Str.Parse.{digits_value}
 use Rattle.std.proofs.lemmas.Bool.Decides.{nat_tests}
+use Rattle.repair_job.specs.declared.answer.Shown.{Shown}
 use Rattle.repair_cli.specs.Jobs.{IsLimit}
-use Rattle.repair_cli.specs.Words.{Asked, repair, Options, command_in, repair_of, two, names, options_in, with_limit, given, limit_spelling, number_given, number_to, is_known, is_numeral, is_within}
+use Rattle.repair_cli.specs.Words.{Asked, repair, Options, command_in, repair_of, two, names, options_in, options_from, limit_in, patches_in, shown_by, given, limit_spelling, edit_spelling, number_given, number_to, is_known, is_numeral, is_within}
 
 -- ---- the limit of an option
 
@@ -38,21 +39,26 @@ given_range (text ∷ []) n e = number_range text n (inside (number_to 10000000 
 given_range (text ∷ other ∷ rest) n e = absurd (cc)
 
 -- the limit among options
-limit_of : (o : Option (Option ℕ)) (options : Options) → option_map with_limit o ≡ Some options → o ≡ Some options.limit
-limit_of None options e = absurd (cc)
-limit_of (Some limit) options e =
-    let same : with_limit limit ≡ options = cc in
+limit_of : (o : Option (Option ℕ)) (p : Option ℕ) (s : Option Shown) (options : Options) → options_from o p s ≡ Some options
+    → o ≡ Some options.limit
+limit_of (Some limit) (Some patches) (Some shown) options e =
+    let here : Options = record { limit = limit; patches = patches; shown = shown } in
+    let same : here ≡ options = cc in
     ap (λ (k : Options). Some k.limit) same
+limit_of None p s options e = absurd (cc)
+limit_of (Some limit) None s options e = absurd (cc)
+limit_of (Some limit) (Some patches) None options e = absurd (cc)
 
 -- the limit of options, if they have one
 options_range : (words : List (List ℕ)) (options : Options) (n : ℕ) → options_in words ≡ Some options → options.limit ≡ Some n → IsLimit n
 options_range words options n e has = by_test (list_all is_known words) e
   where
     by_test : (b : Bool)
-        → (if b then option_map with_limit (number_given 10000000 (given limit_spelling words)) else None) ≡ Some options → IsLimit n
+        → (if b then options_from (limit_in words) (patches_in words) (shown_by (given edit_spelling words)) else None) ≡ Some options
+        → IsLimit n
     by_test true e =
         given_range (given limit_spelling words) n
-        (limit_of (number_given 10000000 (given limit_spelling words)) options e ∙ ap (λ (l : Option ℕ). Some l) has)
+        (limit_of (limit_in words) (patches_in words) (shown_by (given edit_spelling words)) options e ∙ ap (λ (l : Option ℕ). Some l) has)
     by_test false e = absurd (cc)
 
 -- ---- the options of a command

@@ -26,7 +26,7 @@ use Rattle.repair_cli.specs.SuiteFaults.{IsSuiteFault, StatesNoSuite, suite_mess
 use Rattle.repair_cli.specs.Words.{Command, repair, command_in}
 use Rattle.repair_cli.specs.Texts.{line_of, column_of, position_of, located, faulty, faulty_suite, said_of, said_of_test, cannot_read}
 use Rattle.repair_cli.specs.declared.fault.ProgramFault.{ProgramFault}
-use Rattle.repair_cli.specs.declared.fault.ProgramFault.TheVariants.{TooLong, Lex, Parse, Kinds, Unsupported, NoMemory}
+use Rattle.repair_cli.specs.declared.fault.ProgramFault.TheVariants.{TooLong, Lex, Parse, Kinds, TooManyLocations, NoMemory}
 use Rattle.repair_cli.specs.declared.fault.TestsFault.{TestsFault}
 use Rattle.repair_cli.specs.declared.fault.TestsFault.TheVariants as tests
 use Rattle.repair_cli.specs.declared.refusal.Refusal.{Refusal}
@@ -56,7 +56,7 @@ words_within TooLong = omega arith
 words_within (Lex f) = lex_words f
 words_within (Parse f) = parse_words f
 words_within (Kinds f) = kind_words f
-words_within Unsupported = omega arith
+words_within (TooManyLocations n) = omega arith
 words_within NoMemory = omega arith
 
 -- a number of 32 bits has ten digits at most
@@ -146,7 +146,7 @@ fault_within name bytes _ (IsFault.too_long a) = let h = said_within name (fault
 fault_within name bytes _ (IsFault.of_text f n s a) = at_within name bytes (lexer.place_of f) (Lex f) s
 fault_within name bytes _ (IsFault.of_tokens f ts n c x) = at_within name bytes (parser.fault_place f) (Parse f) c.short
 fault_within name bytes _ (IsFault.of_kinds f t n r x) = at_within name bytes (checker.place_of f) (Kinds f) r.cut.short
-fault_within name bytes _ (IsFault.of_size t r x y) = let h = said_within name (fault_words Unsupported) (omega arith) in omega (arith, h)
+fault_within name bytes _ (IsFault.of_size n t r x y) = let h = said_within name (fault_words (TooManyLocations n)) (omega arith) in omega (arith, h)
 
 -- the message of a refused source is at most 64 bytes longer than the name
 refuses_within : (name bytes text : List ℕ) → Refuses name bytes text → length text ≤ 64 + length name
@@ -178,7 +178,7 @@ states_within name bytes text r = let h = suite_within name bytes r.fault r.is_f
 
 -- the message of a cause is no longer than the longest
 pub cause_within : (s : Source) (st : Status) (text : List ℕ) → Cause s st text → length text ≤ longest s
-cause_within s status.Usage text c = let h = least (command_in s.words) in omega (arith, h, ap length c.1)
+cause_within s status.Usage text c = let h = ap longest_of c.0 in omega (arith, h, ap length c.1)
 cause_within s status.ReadFault text (inl c) = let h = ap longest_of c.valid in let i = cannot_read_within c.asked.program text c.message in omega (arith, h, i)
 cause_within s status.ReadFault text (inr c) = let h = ap longest_of c.valid in let i = cannot_read_within c.asked.suite text c.message in omega (arith, h, i)
 cause_within s status.ProgramRefused text c =

@@ -4,6 +4,7 @@ pub mod Commands
 pub mod Lengths
 pub mod Pieces
 pub mod Places
+pub mod Reading
 pub mod Refusing
 pub mod Searching
 pub mod Spellings

@@ -57,7 +57,7 @@ fault_within bytes _ (IsFault.of_text f n s a) = lex_within (length bytes) f (ou
 fault_within bytes _ (IsFault.of_tokens f ts n c x) =
     parse_within (length bytes) f (causes_placed (length bytes) ts f (spans_rise bytes ts c.cut) x)
 fault_within bytes _ (IsFault.of_kinds f t n r x) = kind_within bytes t f r x
-fault_within bytes _ (IsFault.of_size t r x y) = tt
+fault_within bytes _ (IsFault.of_size n t r x y) = tt
 
 -- a refusal of a program with the message of its first fault
 pub is_refusal : (name bytes : List ℕ) (f : ProgramFault) (s : Status) (text : List ℕ) → IsFault bytes f → s ≡ status.ProgramRefused → text ≡ fault_message name bytes f

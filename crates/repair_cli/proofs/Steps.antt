@@ -5,6 +5,7 @@ use Rattle.fx_io.specs.Faults.{Rose}
 use Rattle.fx_io.specs.Held.{Lacks}
 use Rattle.fx_io.proofs.FaultCounts.{Rose-later}
 use Rattle.c_tree.specs.Tree.{Outer}
+use Rattle.c_types.specs.Evidence.{IsOrdered}
 use Rattle.c_stdio.specs.declared.test.Test.{Test}
 use Rattle.repair_job.specs.Job.{Job}
 use Rattle.repair_job.specs.declared.answer.Answer.{Answer}
@@ -61,10 +62,11 @@ suite_held held mid name f0 f1 f2 tests limit same h = subst (λ (h : Option Fil
 
 -- the words and the files state the job, and it can be done
 pub job_states : (source : Source) (asked : Asked) (job : Job) (bytes : List ℕ) (tree : List Outer) (tests : List Test) (limit : ℕ)
-    → Asks source asked → HoldsProgram (file_in source asked.program) bytes tree → HoldsSuite (file_in source asked.suite) tests limit
+    → Asks source asked → HoldsProgram (file_in source asked.program) bytes tree → IsOrdered tree → HoldsSuite (file_in source asked.suite) tests limit
     → job.source ≡ bytes → job.program ≡ tree → job.tests ≡ tests → job.limit ≡ unwrap_or asked.options.limit limit → job.most_patches ≡ asked.options.patches
+    → job.shown ≡ asked.options.shown
     → States source job × CanBeDone job
-job_states source asked job bytes tree tests limit valid program suite b t u l m =
+job_states source asked job bytes tree tests limit valid program text suite b t u l m s =
     let from_bytes : HoldsProgram (file_in source asked.program) job.source tree =
     subst (λ (x : List ℕ). HoldsProgram (file_in source asked.program) x tree) (sym b) program in
     let held : HoldsProgram (file_in source asked.program) job.source job.program =
@@ -72,8 +74,8 @@ job_states source asked job bytes tree tests limit valid program suite b t u l m
     let judged : HoldsSuite (file_in source asked.suite) job.tests limit =
     subst (λ (x : List Test). HoldsSuite (file_in source asked.suite) x limit) (sym u) suite in
     let own = stated_range suite.0 (record { tests = tests; limit = limit }) suite.2.states in (
-      record { asked = asked; valid = valid; program = held; limit = limit; suite = judged; limit_is = l; patches_are = m },
-      record { limit = subst IsLimit (sym l) (limit_range source.words asked limit valid own); few = held.1.runnable.few },
+      record { asked = asked; valid = valid; program = held; limit = limit; suite = judged; limit_is = l; patches_are = m; shown_is = s },
+      record { limit = subst IsLimit (sym l) (limit_range source.words asked limit valid own); few = held.1.runnable.few; ordered = subst IsOrdered (sym t) text },
     )
 
 -- the text of the answer was written, or its write failed

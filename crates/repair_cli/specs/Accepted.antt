@@ -30,8 +30,8 @@ pub record IsRead (bytes : List ℕ) (tree : List Outer) : Type 0 where
 abbrev pub IsWellTyped : ℕ → List Outer → Type 0
 IsWellTyped end tree = program_faults tree end ≡ []
 
--- a tree, of a source of that length, is that program: it keeps the rules of scopes and kinds, and the program is the
--- tree with the variable that each name denotes; it has few locations
+-- a tree, of a source of that length, is that program: it keeps the rules of scopes and kinds, and
+-- the program is the tree with the variable that each name denotes; it has few locations
 pub record IsRunnable (end : ℕ) (tree program : List Outer) : Type 0 where
   pub typed : IsWellTyped end tree
   pub is_resolved : program ≡ resolved tree

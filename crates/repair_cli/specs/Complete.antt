@@ -4,6 +4,7 @@ use Rattle.fx_io.specs.Held.{Lacks}
 use Rattle.repair_job.specs.declared.answer.Answer.{Answer}
 use Rattle.repair_cli.specs.Ends.{IsAnswer}
 use Rattle.repair_cli.specs.Source.{Files, Source}
+use Rattle.repair_cli.specs.Texts.{usage}
 use Rattle.repair_cli.specs.Words.{Command, repair, command_in}
 use Rattle.repair_cli.specs.declared.refusal.Refusal.{Refusal}
 use Rattle.repair_cli.specs.declared.refusal.Refusal.TheVariants as reason
@@ -21,11 +22,12 @@ HasFiles source = HasNamed source.held (command_in source.words)
 
 -- so much room is enough for the text of the right answer, whichever it is
 abbrev pub HasRoom : Source → ℕ → Type 0
-HasRoom source room = (answer : Answer) (text : List ℕ) → IsAnswer source answer text → length text ≤ room
+HasRoom source room =
+    (answer : Answer) (text : List ℕ) → IsAnswer source answer text → length text ≤ room
 
 -- no message of a command is longer
 abbrev pub longest_of : Option Command → ℕ
-longest_of None = 64
+longest_of None = length usage
 longest_of (Some (repair asked)) = 64 + length asked.program + length asked.suite
 
 -- no message of a call with these words is longer

@@ -38,7 +38,8 @@ pub record Refused (source : Source) (out err : Seen) (status : Status) : Type 0
   pub silent : Appends out []
   pub written : Appends err text
 
--- the write of the right answer failed, and the message of that was written, or its write failed too
+-- the write of the right answer failed, and the message of that was written, or its write failed
+-- too
 pub record AnswerBreaks (source : Source) (out err : Seen) : Type 0 where
   pub answer : Answer
   pub text : List ℕ

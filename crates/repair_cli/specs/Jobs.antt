@@ -1,5 +1,6 @@
 -- What contracts see of a job, and which jobs can be done.
 use Rattle.std.specs.Prelude.{ℕ, ◌≤◌}
+use Rattle.c_types.specs.Evidence.{IsOrdered}
 use Rattle.c_types.specs.Shown.{tree_of}
 use Rattle.repair_job.specs.Job as plain
 use Rattle.repair_job.specs.Patches.{HasFewLocations}
@@ -15,6 +16,7 @@ job_of j =
       tests = j.tests.items;
       limit = j.limit;
       most_patches = j.most_patches;
+      shown = j.shown;
     }
 
 -- so many units a run may take
@@ -22,7 +24,9 @@ pub record IsLimit (units : ℕ) : Type 0 where
   pub some : 1 ≤ units
   pub most : units ≤ most_units
 
--- the tests can be run, and the patches can be listed
+-- the tests can be run, the patches can be listed, and each can be made, as the parts of the
+-- program stand in text order
 pub record CanBeDone (job : plain.Job) : Type 0 where
   pub limit : IsLimit job.limit
   pub few : HasFewLocations job.program
+  pub ordered : IsOrdered job.program

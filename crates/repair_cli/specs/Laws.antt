@@ -1,5 +1,5 @@
--- That there is one right answer at most, or one refusal; that what a call answers is settled by its words and files; and
--- that what is accepted is answered.
+-- That there is one right answer at most, or one refusal; that what a call answers is settled by
+-- its words and files; and that what is accepted is answered.
 use Rattle.std.specs.Prelude.{◌≡◌, ℕ, List, Some}
 use Rattle.fx_io.specs.Faults.{Rose}
 use Rattle.c_tree.specs.Tree.{Outer}
@@ -34,21 +34,24 @@ NeverBoth = (name bytes t : List ℕ) (p : List Outer) → IsProgram bytes p →
 
 -- a suite is refused with one message at most
 abbrev pub OneSuiteRefusal : Type 0
-OneSuiteRefusal = (name bytes t u : List ℕ) → StatesNoSuite name bytes t → StatesNoSuite name bytes u → t ≡ u
+OneSuiteRefusal = (name bytes t u : List ℕ)
+    → StatesNoSuite name bytes t → StatesNoSuite name bytes u → t ≡ u
 
 -- bytes that state tests aren't refused as a suite
 abbrev pub NeverBothOfSuite : Type 0
-NeverBothOfSuite = (name bytes t : List ℕ) (tests : List Test) (limit : ℕ) → IsSuite bytes tests limit
-    → StatesNoSuite name bytes t → ⊥
+NeverBothOfSuite = (name bytes t : List ℕ) (tests : List Test) (limit : ℕ)
+    → IsSuite bytes tests limit → StatesNoSuite name bytes t → ⊥
 
 -- these words and files, which are known; the failures don't matter
 abbrev pub given : List (List ℕ) → Files → ℕ → ℕ → Source
-given words files before after = record { words = words; held = Some files; faults = before; faults_after = after }
+given words files before after =
+    record { words = words; held = Some files; faults = before; faults_after = after }
 
 -- where the files are known, one answer at most is right for them, with one text
 abbrev pub OneReply : Type 0
 OneReply = (words : List (List ℕ)) (files : Files) (m n m' n' : ℕ) (a b : Answer) (t u : List ℕ)
-    → IsAnswer (given words files m n) a t → IsAnswer (given words files m' n') b u → (a ≡ b) × (t ≡ u)
+    → IsAnswer (given words files m n) a t → IsAnswer (given words files m' n') b u
+    → (a ≡ b) × (t ≡ u)
 
 -- the call gave an answer, or refused what it was given: no read, no write and no allocation failed
 abbrev pub IsSettled : Status → Type 0
@@ -73,8 +76,9 @@ pub record AppendAlike (sink other : Seen) : Type 0 where
   pub one : Appends sink text
   pub both : Appends other text
 
--- two calls with the same words and the same files that end with an answer or a refusal end with one status, and append
--- the same bytes to standard output and to standard error, whatever the counts of failures
+-- two calls with the same words and the same files that end with an answer or a refusal end with
+-- one status, and append the same bytes to standard output and to standard error, whatever the
+-- counts of failures
 abbrev pub OneEnd : Type 0
 OneEnd = (words : List (List ℕ)) (files : Files) (one other : Settled words files)
     → (one.status ≡ other.status) × AppendAlike one.out other.out × AppendAlike one.err other.err
@@ -87,8 +91,8 @@ IsAnswered Sound = Unit {0}
 IsAnswered NoMemory = Unit {0}
 IsAnswered _ = ⊥
 
--- where the words are a command, and the known files state a program and tests, a call is answered or runs out of memory,
--- if no count of failures rose, of the files or of a sink
+-- where the words are a command, and the known files state a program and tests, a call is answered
+-- or runs out of memory, if no count of failures rose, of the files or of a sink
 abbrev pub AcceptedAreAnswered : Type 0
 AcceptedAreAnswered = (words : List (List ℕ)) (files : Files) (m n : ℕ) (job : Job)
     → States (given words files m n) job

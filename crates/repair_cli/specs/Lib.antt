@@ -8,6 +8,7 @@ pub mod Limits
 pub mod Message
 pub mod Numbers
 pub mod Parts
+pub mod ReadAgain
 pub mod Refusal
 pub mod Sinks
 pub mod Source

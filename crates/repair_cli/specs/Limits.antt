@@ -13,7 +13,11 @@ suite_limit = 4_194_304
 abbrev pub most_units : ℕ
 most_units = 10_000_000
 
--- the most patches that are tried, where the words say nothing of it
+-- the most patches that the words can say are tried at most
+abbrev pub most_patches : ℕ
+most_patches = 65_536
+
+-- how many patches are tried at most, where the words say nothing of it
 abbrev pub default_patches : ℕ
 default_patches = 16_384
 

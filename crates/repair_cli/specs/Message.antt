@@ -24,4 +24,5 @@ place_text (Some (Test number)) = test_text number
 
 -- the whole message
 abbrev pub text_of : Message → List ℕ
-text_of m = (m.before.now ++ m.name.now) ++ place_text m.at ++ (m.between.now ++ m.words.now) ++ m.end.now
+text_of m =
+    (m.before.now ++ m.name.now) ++ place_text m.at ++ (m.between.now ++ m.words.now) ++ m.end.now

@@ -44,9 +44,11 @@ GivesNoSuite file _ text = ⊥
 
 -- the text was written, with this status, or its write failed
 abbrev pub Writes : Seen → List ℕ → Status → Status → Type 0
-Writes err text status result = ((result ≡ status) × Appends err text) ⊎ ((result ≡ WriteFault) × Breaks err text)
+Writes err text status result =
+    ((result ≡ status) × Appends err text) ⊎ ((result ≡ WriteFault) × Breaks err text)
 
--- the text of an answer was written, and no message; or its write failed, and the message of that was written, or not
+-- the text of an answer was written, and no message; or its write failed, and the message of that
+-- was written, or not
 abbrev pub Reports : Seen → Seen → Answer → List ℕ → Status → Type 0
 Reports out err answer text result =
     ((result ≡ status_of_answer answer) × Appends out text × Appends err [])

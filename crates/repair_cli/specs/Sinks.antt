@@ -3,7 +3,8 @@ use Rattle.std.specs.Prelude.{◌≡◌, ◌⊎◌, ℕ, ◌<◌, List, length, 
 use Rattle.fx_io.specs.Faults.{Rose}
 use Rattle.fx_io.specs.Written.{appended}
 
--- what is seen of a sink before and after a call: its count of failures, and its bytes where they are known
+-- what is seen of a sink before and after a call: its count of failures, and its bytes where they
+-- are known
 pub record Seen : Type 0 where
   pub faults : ℕ
   pub faults_after : ℕ
@@ -13,7 +14,12 @@ pub record Seen : Type 0 where
 -- this is seen of a sink, by what gives its count and its bytes
 abbrev pub seen : {S : Type 0} → (S → ℕ) → (S → Option (List ℕ)) → S → S → Seen
 seen faults bytes before after =
-    record { faults = faults before; faults_after = faults after; bytes = bytes before; bytes_after = bytes after }
+    record {
+      faults = faults before;
+      faults_after = faults after;
+      bytes = bytes before;
+      bytes_after = bytes after;
+    }
 
 -- exactly these bytes were appended, where the sink's bytes are known
 abbrev pub Appends : Seen → List ℕ → Type 0

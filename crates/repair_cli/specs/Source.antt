@@ -20,7 +20,8 @@ Files = List (List ℕ × List ℕ)
 
 -- ---- one file
 
--- a file by its name, with all files, where they are known, and the count of failed calls on them before and after
+-- a file by its name, with all files, where they are known, and the count of failed calls on them
+-- before and after
 pub record File : Type 0 where
   pub name : List ℕ
   pub held : Option Files
@@ -46,19 +47,23 @@ HoldsSomeProgram file = (bytes : List ℕ) × (program : List Outer) × HoldsPro
 
 -- the file states no program, as this message says
 abbrev pub HoldsNoProgram : File → List ℕ → Type 0
-HoldsNoProgram file text = (bytes : List ℕ) × IsContent file.held file.name bytes × Refuses file.name bytes text
+HoldsNoProgram file text =
+    (bytes : List ℕ) × IsContent file.held file.name bytes × Refuses file.name bytes text
 
 -- the file states these tests with this limit
 abbrev pub HoldsSuite : File → List Test → ℕ → Type 0
-HoldsSuite file tests limit = (bytes : List ℕ) × IsContent file.held file.name bytes × IsSuite bytes tests limit
+HoldsSuite file tests limit =
+    (bytes : List ℕ) × IsContent file.held file.name bytes × IsSuite bytes tests limit
 
 -- the file states no tests, as this message says
 abbrev pub HoldsNoSuite : File → List ℕ → Type 0
-HoldsNoSuite file text = (bytes : List ℕ) × IsContent file.held file.name bytes × StatesNoSuite file.name bytes text
+HoldsNoSuite file text =
+    (bytes : List ℕ) × IsContent file.held file.name bytes × StatesNoSuite file.name bytes text
 
 -- ---- a whole call
 
--- the words of a call, the files, where they are known, and the count of failed calls on them before and after
+-- the words of a call, the files, where they are known, and the count of failed calls on them
+-- before and after
 pub record Source : Type 0 where
   pub words : List (List ℕ)
   pub held : Option Files
@@ -66,9 +71,15 @@ pub record Source : Type 0 where
   pub faults_after : ℕ
 
 -- these words and files, by what gives all files and the count
-abbrev pub source : {F : Type 0} → (F → Option Files) → (F → ℕ) → List (String Global) → F → F → Source
+abbrev pub source : {F : Type 0} → (F → Option Files) → (F → ℕ) → List (String Global) → F → F
+    → Source
 source held faults words before after =
-    record { words = words_of words; held = held before; faults = faults before; faults_after = faults after }
+    record {
+      words = words_of words;
+      held = held before;
+      faults = faults before;
+      faults_after = faults after;
+    }
 
 -- the words ask for this repair
 abbrev pub Asks : Source → Asked → Type 0
@@ -77,7 +88,12 @@ Asks source asked = command_in source.words ≡ Some (repair asked)
 -- the file of this name
 abbrev pub file_in : Source → List ℕ → File
 file_in source name =
-    record { name = name; held = source.held; faults = source.faults; faults_after = source.faults_after }
+    record {
+      name = name;
+      held = source.held;
+      faults = source.faults;
+      faults_after = source.faults_after;
+    }
 
 -- the words ask for a repair, and both files were read: they and the options state this job
 pub record States (source : Source) (job : Job) : Type 0 where
@@ -88,6 +104,7 @@ pub record States (source : Source) (job : Job) : Type 0 where
   pub suite : HoldsSuite (file_in source asked.suite) job.tests limit
   pub limit_is : job.limit ≡ unwrap_or asked.options.limit limit
   pub patches_are : job.most_patches ≡ asked.options.patches
+  pub shown_is : job.shown ≡ asked.options.shown
 
 -- the program could not be read, as this message says
 pub record LacksProgram (source : Source) (text : List ℕ) : Type 0 where

@@ -4,7 +4,7 @@ use Rattle.std.specs.List.{count_by, suffix_len}
 
 -- the words are no command
 abbrev pub usage : List ℕ
-usage = codes "usage: f1x repair PROGRAM SUITE [--limit=N]\n"
+usage = codes "usage: f1x repair PROGRAM SUITE [--limit=N] [--max-patches=N] [--edit]\n"
 
 -- the line of a place: 1, and the line feeds before it
 abbrev pub line_of : List ℕ → ℕ → ℕ
@@ -25,7 +25,8 @@ said_of name words = name ++ codes ": " ++ words ++ codes "\n"
 -- these words are said of a line and a column in it
 abbrev pub located : List ℕ → ℕ → ℕ → List ℕ → List ℕ
 located name line column words =
-    name ++ codes ":" ++ decimal line ++ codes ":" ++ decimal column ++ codes ": " ++ words ++ codes "\n"
+    name ++ codes ":" ++ decimal line ++ codes ":" ++ decimal column
+    ++ codes ": " ++ words ++ codes "\n"
 
 -- these words are said of the file, with the line and the column, if there is a place
 abbrev pub faulty : List ℕ → Option (ℕ × ℕ) → List ℕ → List ℕ
@@ -34,7 +35,8 @@ faulty name (Some at) words = located name at.0 at.1 words
 
 -- these words are said of a test in it, by its number
 abbrev pub said_of_test : List ℕ → ℕ → List ℕ → List ℕ
-said_of_test name number words = name ++ codes ": test " ++ decimal number ++ codes ": " ++ words ++ codes "\n"
+said_of_test name number words =
+    name ++ codes ": test " ++ decimal number ++ codes ": " ++ words ++ codes "\n"
 
 -- these words are said of the suite of this name, or of a test in it, if one is at fault
 abbrev pub faulty_suite : List ℕ → Option ℕ → List ℕ → List ℕ

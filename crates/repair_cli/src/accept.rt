@@ -1,7 +1,8 @@
 //! Which programs are accepted.
-ghost use Rattle.std.specs.Prelude.{◌≡◌, ◌≢◌, MatchResult};
+ghost use Rattle.std.specs.Prelude.{◌≡◌, ◌≢◌, IfOk, MatchResult};
 ghost use Rattle.c_lex.specs.declared.fault.LexFault.TheVariants as lex;
 ghost use Rattle.c_parse.specs.declared.fault.ParseFault.TheVariants as parse;
+ghost use Rattle.c_types.specs.Evidence.{IsOrdered};
 ghost use Rattle.c_types.specs.Shown.{tree_of};
 ghost use Rattle.c_types.specs.declared.fault.TypeFault.TheVariants as kinds;
 ghost use Rattle.repair_cli.specs.Accepted.{IsProgram, IsShort};
@@ -9,20 +10,24 @@ ghost use Rattle.repair_cli.specs.Parts.{IsFaultUnless};
 ghost use Rattle.repair_cli.specs.declared.fault.ProgramFault.TheVariants.{Lex, Parse, Kinds, NoMemory};
 
 use crate::fault::ProgramFault;
-use crate::tried::has_few_locations;
+use crate::tried::few_locations;
 use c_lex::{LexFault, lex};
 use c_parse::{ParseFault, parse};
 use c_types::{TypeFault, Typed, check};
+use schemas::LocFault;
 use std::alloc::Global;
 
-/// The program of this source.
+/// The program of this source. Its parts stand in text order.
 ///
 /// # Errors
 ///
 /// The first fault of the source, or `NoMemory` where memory runs out.
 pub(crate) fn accept(alloc: Global, bytes: &[u8]) -> Result<Typed, ProgramFault>
     requires { IsShort bytes.now }
-    ensures { MatchResult result (λ program. IsProgram bytes.now (tree_of program)) (IsFaultUnless bytes.now) }
+    ensures judged { MatchResult result
+        (λ program. IsProgram bytes.now (tree_of program))
+        (IsFaultUnless bytes.now) }
+    ensures ordered { IfOk result (λ program. IsOrdered (tree_of program)) }
 {
     let end = bytes.len() as u32;
     let tokens = match lex(alloc, bytes) {
@@ -37,14 +42,11 @@ pub(crate) fn accept(alloc: Global, bytes: &[u8]) -> Result<Typed, ProgramFault>
         Ok(program) => program,
         Err(fault) => return Err(of_kinds(fault)),
     };
-    let few = match has_few_locations(alloc, &program) {
-        Ok(few) => few,
-        Err(_) => return Err(ProgramFault::NoMemory),
-    };
-    if !few {
-        return Err(ProgramFault::Unsupported);
+    match few_locations(alloc, &program) {
+        Ok(()) => Ok(program),
+        Err(LocFault::TooMany(count)) => Err(ProgramFault::TooManyLocations(count)),
+        Err(LocFault::NoMemory) => Err(ProgramFault::NoMemory),
     }
-    Ok(program)
 }
 
 // The fault of a program whose text has this one.

@@ -6,7 +6,7 @@ ghost use Rattle.repair_cli.specs.Jobs.{job_of, CanBeDone};
 
 use crate::job::Job;
 use crate::search::{first_repair, passes_all};
-use crate::tried::{patched_text, tried};
+use crate::tried::{shown, tried};
 use c_tree::NoMemory;
 use repair_job::Answer;
 use std::alloc::Global;
@@ -44,7 +44,7 @@ fn repaired(alloc: Global, job: &Job) -> Result<Reply, NoMemory>
     match first_repair(alloc, job, &space)? {
         Some(rank) => Ok(Reply {
             answer: Answer::Patch(rank),
-            text: patched_text(alloc, job, &space, rank)?,
+            text: shown(alloc, job, &space, rank)?,
         }),
         None => Ok(Reply {
             answer: Answer::Nothing,

@@ -19,8 +19,9 @@ pub(crate) enum ProgramFault {
     Parse(ParseFault),
     /// It breaks a rule of scopes and kinds.
     Kinds(TypeFault),
-    /// It has more locations than a program may have.
-    Unsupported,
+    /// It has more locations than 4,096; so many, or the largest `u32` where they are more than
+    /// that.
+    TooManyLocations(u32),
     /// There was no memory for the work.
     NoMemory,
 }
@@ -34,7 +35,8 @@ impl ProgramFault {
             ProgramFault::Lex(fault) => fault.place(),
             ProgramFault::Parse(fault) => fault.place(),
             ProgramFault::Kinds(fault) => fault.place(),
-            ProgramFault::TooLong | ProgramFault::Unsupported | ProgramFault::NoMemory => None,
+            ProgramFault::TooLong | ProgramFault::TooManyLocations(_) => None,
+            ProgramFault::NoMemory => None,
         }
     }
 
@@ -47,7 +49,7 @@ impl ProgramFault {
             ProgramFault::Lex(fault) => fault.words(),
             ProgramFault::Parse(fault) => fault.words(),
             ProgramFault::Kinds(fault) => fault.words(),
-            ProgramFault::Unsupported => "unsupported",
+            ProgramFault::TooManyLocations(_) => "too many locations",
             ProgramFault::NoMemory => "out of memory",
         }
     }

@@ -1,12 +1,13 @@
 //! Reads the program and the suite that the words name, and judges them.
-ghost use Rattle.std.specs.Prelude.{◌≡◌, ◌≢◌, ◌≤◌, length, Err, IfOk, IfErr, IfSome, MatchResult, unwrap_or};
+ghost use Rattle.std.specs.Prelude.{◌≡◌, ◌≢◌, ◌≤◌, length, Err, IfOk, IfErr, MatchResult, unwrap_or};
 ghost use Rattle.fx_io.specs.Held.{Lacks};
+ghost use Rattle.c_types.specs.Evidence.{IsOrdered};
 ghost use Rattle.c_types.specs.Shown.{tree_of};
 ghost use Rattle.test_suite.specs.Suite.{stated};
 ghost use Rattle.test_suite.specs.declared.fault.SuiteFault.TheVariants as kinds;
 ghost use Rattle.repair_cli.specs.Accepted.{IsShort};
 ghost use Rattle.repair_cli.specs.Complete.{HasFiles, OnRead};
-ghost use Rattle.repair_cli.specs.Jobs.{job_of, CanBeDone, IsLimit};
+ghost use Rattle.repair_cli.specs.Jobs.{job_of, CanBeDone};
 ghost use Rattle.repair_cli.specs.Limits.{suite_limit};
 ghost use Rattle.repair_cli.specs.Parts.{GivesNoProgram, GivesNoSuite, IsFaultUnless, IsRefusal, IsSuiteRefusal};
 ghost use Rattle.repair_cli.specs.Refusal.{status_of, message_of};
@@ -32,7 +33,8 @@ pub(crate) struct Subject {
     pub(crate) program: Typed,
 }
 
-/// The job that the words and the files state: first the program is read and judged, then the suite.
+/// The job that the words and the files state: first the program is read and judged, then the
+/// suite.
 pub(crate) fn gathered<'a, F: Files>(
     alloc: Global,
     words: &'a [String],
@@ -70,6 +72,7 @@ fn job_with(subject: Subject, suite: Suite, options: Options) -> Job
     ensures tests { result.tests.items ≡ suite.tests.items }
     ensures limit { result.limit ≡ unwrap_or options.limit suite.limit }
     ensures patches { result.most_patches ≡ options.patches }
+    ensures shown { result.shown ≡ options.shown }
 {
     let Subject { source, program } = subject;
     let Suite { tests, limit } = suite;
@@ -79,10 +82,11 @@ fn job_with(subject: Subject, suite: Suite, options: Options) -> Job
         tests,
         limit: options.limit.unwrap_or(limit),
         most_patches: options.patches,
+        shown: options.shown,
     }
 }
 
-// The program in the file of this name.
+// The program in the file of this name. Its parts stand in text order.
 fn program_named<'a, F: Files>(
     alloc: Global,
     files: &mut F,
@@ -92,10 +96,12 @@ fn program_named<'a, F: Files>(
     ensures faults { F.faults files.old ≤ F.faults files.new }
     ensures program { let named = file F.held F.faults name.now files.old files.new in
         IfOk result (λ subject. HoldsProgram named subject.source.items (tree_of subject.program)) }
+    ensures ordered { IfOk result (λ subject. IsOrdered (tree_of subject.program)) }
     ensures refusal { let named = file F.held F.faults name.now files.old files.new in
         IfErr result (λ refusal. GivesNoProgram named (status_of refusal) (message_of refusal)) }
     ensures sure { F.sure files.old →
-        F.sure files.new × IfErr result (λ refusal. OnRead refusal (Lacks (F.held files.old) name.now)) }
+        F.sure files.new
+        × IfErr result (λ refusal. OnRead refusal (Lacks (F.held files.old) name.now)) }
 {
     let source = match read_whole(alloc, files, name, SOURCE_LIMIT) {
         Ok(source) => source,
@@ -134,7 +140,8 @@ fn suite_named<'a, F: Files>(
     ensures refusal { let named = file F.held F.faults name.now files.old files.new in
         IfErr result (λ refusal. GivesNoSuite named (status_of refusal) (message_of refusal)) }
     ensures sure { F.sure files.old →
-        F.sure files.new × IfErr result (λ refusal. OnRead refusal (Lacks (F.held files.old) name.now)) }
+        F.sure files.new
+        × IfErr result (λ refusal. OnRead refusal (Lacks (F.held files.old) name.now)) }
 {
     let bytes = match read_whole(alloc, files, name, SUITE_LIMIT) {
         Ok(bytes) => bytes,

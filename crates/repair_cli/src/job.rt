@@ -2,6 +2,7 @@
 
 use c_stdio::Test;
 use c_types::Typed;
+use repair_job::Shown;
 
 /// What a repair is given. Contracts see it as `job_of`.
 #[derive(Drop)]
@@ -16,4 +17,6 @@ pub(crate) struct Job {
     pub(crate) limit: u64,
     /// How many patches are tried at most.
     pub(crate) most_patches: u32,
+    /// What an answer shows of a patch.
+    pub(crate) shown: Shown,
 }

@@ -2,8 +2,9 @@
 ghost use Rattle.repair_cli.specs.Laws.{OneProgram, OneFault, OneRefusal, NeverBoth, OneReply, OneEnd};
 ghost use Rattle.repair_cli.specs.Laws.{OneSuiteRefusal, NeverBothOfSuite, AcceptedAreAnswered};
 
-/// A source states one program at most, or has one first fault at most and so one message, and never both; so it is with
-/// a suite. Where the files are known, one answer at most is right for a call's words and files, with one text.
+/// A source states one program at most, or has one first fault at most and so one message, and
+/// never both; so it is with a suite. Where the files are known, one answer at most is right for a
+/// call's words and files, with one text.
 pub fn one_answer()
     ensures program { OneProgram }
     ensures fault { OneFault }
@@ -14,14 +15,15 @@ pub fn one_answer()
     ensures reply { OneReply }
 {}
 
-/// Two calls with the same words and the same files that end with an answer or a refusal end with one status, and append
-/// the same bytes to standard output and to standard error, whatever failures were counted.
+/// Two calls with the same words and the same files that end with an answer or a refusal end with
+/// one status, and append the same bytes to standard output and to standard error, whatever
+/// failures were counted.
 pub fn one_end()
     ensures { OneEnd }
 {}
 
-/// A call whose words are a command, and whose files are known and state a program and tests, ends with an answer or runs
-/// out of memory, unless a call on the files or on a sink failed.
+/// A call whose words are a command, and whose files are known and state a program and tests, ends
+/// with an answer or runs out of memory, unless a call on the files or on a sink failed.
 pub fn accepted_are_answered()
     ensures { AcceptedAreAnswered }
 {}

@@ -10,6 +10,9 @@ use crate::fault::{ProgramFault, TestsFault};
 use crate::position::line_and_column;
 use crate::status::Status;
 
+/// The line that says which words are a command.
+const USAGE: &[u8] = b"usage: f1x repair PROGRAM SUITE [--limit=N] [--max-patches=N] [--edit]";
+
 /// Why there is no answer, with the name of the file that the message is about.
 #[derive(Clone, Copy)]
 pub(crate) enum Refusal<'a> {
@@ -101,7 +104,7 @@ impl<'a> Refusal<'a> {
         ensures { text_of result ≡ message_of self.entry }
     {
         match self {
-            Refusal::Usage => own(b"usage: f1x repair PROGRAM SUITE [--limit=N]", ""),
+            Refusal::Usage => own(USAGE, ""),
             Refusal::Program { name, fault, at } => of_source(name, at, fault.words()),
             Refusal::Suite { name, fault } => of_suite(name, fault.test(), fault.words()),
             Refusal::Read(name) => own(b"f1x: cannot read ", name),

@@ -13,14 +13,16 @@ use fx_io::{Failed, Sink, write_whole};
 use itoa::Buffer;
 use repair_job::Answer;
 
-/// Writes the text of the answer, or where that fails the message of the failure, and answers the status.
+/// Writes the text of the answer, or where that fails the message of the failure, and answers the
+/// status.
 pub(crate) fn report<O: Sink, E: Sink>(reply: &Reply, out: &mut O, err: &mut E) -> Status
     ensures out_faults { O.faults out.old ≤ O.faults out.new }
     ensures err_faults { E.faults err.old ≤ E.faults err.new }
     ensures reports { let wrote = seen O.faults O.written out.old out.new in
         let said = seen E.faults E.written err.old err.new in
         Reports wrote said reply.now.answer reply.now.text.items result }
-    ensures room { length reply.now.text.items ≤ O.room out.old → result ≡ status_of_answer reply.now.answer }
+    ensures room { length reply.now.text.items ≤ O.room out.old
+        → result ≡ status_of_answer reply.now.answer }
 {
     match write_whole(out, &reply.text) {
         Ok(()) => status_for(reply.answer),
@@ -33,7 +35,8 @@ pub(crate) fn refuse<E: Sink>(refusal: Refusal, err: &mut E) -> Status
     ensures faults { E.faults err.old ≤ E.faults err.new }
     ensures writes { let wrote = seen E.faults E.written err.old err.new in
         Writes wrote (message_of refusal.entry) (status_of refusal.entry) result }
-    ensures room { length (message_of refusal.entry) ≤ E.room err.old → result ≡ status_of refusal.entry }
+    ensures room { length (message_of refusal.entry) ≤ E.room err.old
+        → result ≡ status_of refusal.entry }
 {
     match write_message(err, refusal.message()) {
         Ok(()) => refusal.status(),
@@ -56,11 +59,13 @@ fn write_message<S: Sink>(sink: &mut S, message: Message) -> Result<(), Failed>
     Ok(())
 }
 
-// Writes the place, if there is one: the line and the column, each after a colon, or the number of the test.
+// Writes the place, if there is one: the line and the column, each after a colon, or the number of
+// the test.
 fn write_place<S: Sink>(sink: &mut S, at: Option<Place>) -> Result<(), Failed>
     ensures faults { S.faults sink.old ≤ S.faults sink.new }
     ensures written { let wrote = seen S.faults S.written sink.old sink.new in
-        MatchResult result (λ _. Appends wrote (place_text at)) (λ _. Breaks wrote (place_text at)) }
+        let text = place_text at in
+        MatchResult result (λ _. Appends wrote text) (λ _. Breaks wrote text) }
     ensures room { length (place_text at) ≤ S.room sink.old →
         IsOk result × (S.room sink.new + length (place_text at) ≡ S.room sink.old) }
 {
@@ -89,7 +94,8 @@ fn write_position<S: Sink>(sink: &mut S, line: u32, column: u32) -> Result<(), F
 fn write_number<S: Sink>(sink: &mut S, n: u32) -> Result<(), Failed>
     ensures faults { S.faults sink.old ≤ S.faults sink.new }
     ensures written { let wrote = seen S.faults S.written sink.old sink.new in
-        MatchResult result (λ _. Appends wrote (number_text n)) (λ _. Breaks wrote (number_text n)) }
+        let text = number_text n in
+        MatchResult result (λ _. Appends wrote text) (λ _. Breaks wrote text) }
     ensures room { length (number_text n) ≤ S.room sink.old →
         IsOk result × (S.room sink.new + length (number_text n) ≡ S.room sink.old) }
 {

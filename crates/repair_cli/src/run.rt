@@ -2,6 +2,7 @@
 ghost use Rattle.std.specs.Prelude.{◌≡◌, ◌≤◌, IfErr, MatchResult};
 ghost use Rattle.repair_cli.specs.Complete.{HasFiles, HasRoom, OnRead, IsFaultless, longest};
 ghost use Rattle.repair_cli.specs.Ends.{Ends, IsAnswer};
+ghost use Rattle.repair_cli.specs.ReadAgain.{PatchesAreReadAgain};
 ghost use Rattle.repair_cli.specs.Refusal.{status_of, message_of};
 ghost use Rattle.repair_cli.specs.Sinks.{seen};
 ghost use Rattle.repair_cli.specs.Source.{source, Cause};
@@ -12,15 +13,17 @@ use crate::refusal::Refusal;
 use crate::report::{refuse, report};
 use crate::status::Status;
 use fx_io::{Files, Sink};
+use job_reread::texts_are_read_again;
 use std::alloc::Global;
 
-/// Repairs the program that the words name, over the tests of the suite that they name. The words are those after
-/// the program's own name: `repair`, and then the name of a C source, the name of a JSON suite, and options before,
-/// between or after these.
+/// Repairs the program that the words name, over the tests of the suite that they name. The words
+/// are those after the program's own name: `repair`, and then the name of a C source, the name of a
+/// JSON suite, and options before, between or after these.
 ///
-/// The answer goes to `out`: the patched source, or a line that there is nothing to repair or that no patch repairs
-/// it. Where there is no answer a message goes to `err`. The status says which: its number is the
-/// exit status. After a failed write nothing more is written to that sink.
+/// The answer goes to `out`: the patched source or with `--edit` the line of the patch, or a line
+/// that there is nothing to repair or that no patch repairs it. The patched source, read again, is
+/// the patched program. Where there is no answer a message goes to `err`. The status says which:
+/// its number is the exit status. After a failed write nothing more is written to that sink.
 pub fn run_alone<F: Files, O: Sink, E: Sink>(
     alloc: Global,
     words: &[String],
@@ -39,7 +42,9 @@ pub fn run_alone<F: Files, O: Sink, E: Sink>(
     ensures complete { let given = source F.held F.faults words.now files.old files.new in
         F.sure files.old → HasFiles given →
         HasRoom given (O.room out.old) → longest given ≤ E.room err.old → IsFaultless result }
+    ensures read_again { PatchesAreReadAgain (source F.held F.faults words.now files.old files.new) }
 {
+    texts_are_read_again();
     match answered(alloc, words, files) {
         Ok(reply) => report(&reply, out, err),
         Err(refusal) => refuse(refusal, err),

@@ -49,7 +49,8 @@ pub(crate) fn passes_all(alloc: Global, program: &Typed, job: &Job) -> Result<bo
 #[tactic(auto, unfolding(repair_job::specs::Job::Passes))]
 fn passes(alloc: Global, program: &Typed, job: &Job, test: &Test) -> Result<bool, NoMemory>
     requires { CanBeDone (job_of job.now) }
-    ensures { IfOk result (λ passed. IsTrue passed ↔ Passes (job_of job.now) (tree_of program.now) test.now) }
+    ensures { IfOk result (λ passed.
+        IsTrue passed ↔ Passes (job_of job.now) (tree_of program.now) test.now) }
 {
     let outcome = plain_run(alloc, program, test, job.limit)?;
     Ok(outcome == Outcome::Passed)

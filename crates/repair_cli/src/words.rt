@@ -1,14 +1,16 @@
 //! The words of the command line: a command, and the names and the options after it.
-ghost use Rattle.std.specs.Prelude.{◌≡◌, [], ◌∷◌, option_map, MatchOption};
+ghost use Rattle.std.specs.Prelude.{◌≡◌, ◌≤◌, [], ◌∷◌, true, option_map, MatchOption, IfSome};
 ghost use Rattle.std.specs.List.{list_all};
 ghost use Rattle.std.specs.Str.{all_ascii_digits};
 ghost use Rattle.repair_cli.specs.Words.{repair, command_in, command_of as command_seen, asked_of as asked_seen};
 ghost use Rattle.repair_cli.specs.Words.{options_of as options_seen, options_in as options_among, given, after as text_after};
 ghost use Rattle.repair_cli.specs.Words.{words_of, is_option as begins_option, is_known as is_known_word, names, two};
 ghost use Rattle.repair_cli.specs.Words.{number_to, number_given as number_of_option};
+ghost use Rattle.repair_cli.specs.Words.{patches_in as patches_said, shown_by, edit_spelling};
 ghost use Rattle.repair_cli.specs.Words.{is_numeral as is_numeral_text, is_within as is_number_within};
 
-use crate::limits::{DEFAULT_PATCHES, MOST_DIGITS, MOST_UNITS};
+use crate::limits::{DEFAULT_PATCHES, MOST_DIGITS, MOST_PATCHES, MOST_UNITS};
+use repair_job::Shown;
 
 /// What may be said of a repair.
 #[derive(Clone, Copy)]
@@ -17,6 +19,8 @@ pub(crate) struct Options {
     pub(crate) limit: Option<u64>,
     /// How many patches are tried at most.
     pub(crate) patches: u32,
+    /// What an answer shows of a patch.
+    pub(crate) shown: Shown,
 }
 
 /// What is asked for: the repair of the program of this name over the suite of this name.
@@ -37,7 +41,14 @@ pub(crate) enum Command<'a> {
 /// The option that says how many units each test may take, up to its number.
 const LIMIT: &str = "--limit=";
 
-/// The command that the words are, where they are `repair`, and then two names and options in any order.
+/// The option that says how many patches are tried at most, up to its number.
+const PATCHES: &str = "--max-patches=";
+
+/// The option that asks for the line of a patch in place of the patched source.
+const EDIT: &str = "--edit";
+
+/// The command that the words are, where they are `repair`, and then two names and options in any
+/// order.
 pub(crate) fn command_of(words: &[String]) -> Option<Command<'_>>
     ensures { option_map command_seen result ≡ command_in (words_of words.now) }
 {
@@ -67,7 +78,8 @@ pub(crate) fn asked_by(command: Command<'_>) -> Asked<'_>
 
 // The names among the words, where there are just two, and neither is empty.
 fn names_in(words: &[String]) -> Option<(&str, &str)>
-    ensures { option_map (λ both. (both.0.now, both.1.now)) result ≡ two (names (words_of words.now)) }
+    ensures { option_map (λ both. (both.0.now, both.1.now)) result
+        ≡ two (names (words_of words.now)) }
 {
     let (program, rest) = next_name(words)?;
     let (suite, rest) = next_name(rest)?;
@@ -100,10 +112,38 @@ fn options_in(words: &[String]) -> Option<Options>
         return None;
     }
     let limit = number_given(words, LIMIT, MOST_UNITS)?;
+    let patches = patches_in(words)?;
+    let shown = shown_in(words)?;
     Some(Options {
         limit,
-        patches: DEFAULT_PATCHES,
+        patches,
+        shown,
     })
+}
+
+// How many patches the words say are tried at most, or the default; none where they say it twice,
+// or by no number of that range.
+fn patches_in(words: &[String]) -> Option<u32>
+    ensures { result ≡ patches_said (words_of words.now) }
+{
+    let number = number_given(words, PATCHES, MOST_PATCHES)?;
+    match number {
+        Some(patches) => Some(patches as u32),
+        None => Some(DEFAULT_PATCHES),
+    }
+}
+
+// What the words ask to be shown of a patch; none where they ask for the line twice.
+fn shown_in(words: &[String]) -> Option<Shown>
+    ensures { result ≡ shown_by (given edit_spelling (words_of words.now)) }
+{
+    let Some((text, rest)) = next_given(words, EDIT) else {
+        return Some(Shown::Source);
+    };
+    if !text.is_empty() || next_given(rest, EDIT).is_some() {
+        return None;
+    }
+    Some(Shown::Line)
 }
 
 // Whether each option among the words is one of a repair.
@@ -124,13 +164,17 @@ fn are_known(words: &[String]) -> bool
 fn is_known(word: &str) -> bool
     ensures { result ≡ is_known_word word.now }
 {
-    !is_option(word.as_bytes()) || after(word, LIMIT).is_some()
+    !is_option(word.as_bytes())
+        || after(word, LIMIT).is_some()
+        || after(word, PATCHES).is_some()
+        || after(word, EDIT).is_some()
 }
 
-// The number of the option of this spelling, if the words give one; none where they give two, or no number from 1 to
-// this.
+// The number of the option of this spelling, if the words give one; none where they give two, or no
+// number from 1 to this.
 fn number_given(words: &[String], spelling: &str, most: u64) -> Option<Option<u64>>
-    ensures { result ≡ number_of_option most (given spelling.now (words_of words.now)) }
+    ensures number { result ≡ number_of_option most (given spelling.now (words_of words.now)) }
+    ensures within { IfSome result (λ number. IfSome number (λ n. n ≤ most)) }
 {
     let Some((text, rest)) = next_given(words, spelling) else {
         return Some(None);
@@ -167,7 +211,8 @@ fn after<'a>(word: &'a str, spelling: &str) -> Option<&'a str>
 
 // The number from 1 to this that the text is, in one to ten digits.
 fn number_in(text: &str, most: u64) -> Option<u64>
-    ensures { result ≡ number_to most text.now }
+    ensures number { result ≡ number_to most text.now }
+    ensures within { IfSome result (λ n. n ≤ most) }
 {
     if !is_numeral(text) {
         return None;
@@ -190,7 +235,8 @@ fn is_numeral(text: &str) -> bool
 
 // Whether the number is from 1 to this.
 fn is_within(number: u64, most: u64) -> bool
-    ensures { result ≡ is_number_within most number }
+    ensures test { result ≡ is_number_within most number }
+    ensures within { result ≡ true → number ≤ most }
 {
     1 <= number && number <= most
 }

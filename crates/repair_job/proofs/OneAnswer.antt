@@ -6,9 +6,8 @@ use Rattle.std.proofs.lemmas.List.{length-take, get_or-take}
 use Rattle.std.proofs.lemmas.List.Elements.{All-get_or}
 use Rattle.std.proofs.lemmas.Option.{slice_get_within, get_or_from_slice_get, same_Some}
 use Rattle.repair_job.specs.Job.{Job}
-use Rattle.repair_job.specs.Answers.{IsRight, IsFirstRepair, Repairs}
+use Rattle.repair_job.specs.Answers.{IsFirstRepair, Repairs}
 use Rattle.repair_job.specs.Patches.{Patch, patches}
-use Rattle.repair_job.specs.Texts.{IsText}
 use Rattle.repair_job.specs.Laws.{OneAnswer, OneText}
 use Rattle.repair_job.specs.declared.answer.Answer.TheVariants as answer
 

@@ -1,5 +1,5 @@
 -- What is right to answer for a job.
-use Rattle.std.specs.Prelude.{◌≡◌, ℕ, List, take, slice_get, Some}
+use Rattle.std.specs.Prelude.{◌≡◌, ℕ, take, slice_get, Some}
 use Rattle.std.specs.List.{All}
 use Rattle.repair_job.specs.Job.{Job, PassesAll}
 use Rattle.repair_job.specs.Patches.{Patch, patches, patched}

@@ -1,4 +1,4 @@
-//! The answers of a repair.
+//! The answers of a repair, and what they show of a patch.
 
 /// What a repair answers.
 #[derive(Clone, Copy, Debug, PartialEq, Eq, Drop)]
@@ -10,4 +10,13 @@ pub enum Answer {
     Patch(u32),
     /// The program fails a test, and no patch that is tried makes it pass every test.
     Nothing,
+}
+
+/// What an answer shows of a patch.
+#[derive(Clone, Copy, Debug, PartialEq, Eq, Drop)]
+pub enum Shown {
+    /// The source with the patch.
+    Source,
+    /// The line that says what the patch changes.
+    Line,
 }

@@ -4,5 +4,5 @@
 mod answer;
 mod laws;
 
-pub use answer::Answer;
+pub use answer::{Answer, Shown};
 pub use laws::one_answer;

@@ -1,4 +1,5 @@
-//! Sources that are refused, with the message of each first fault, and sources that are spelled in other ways.
+//! Sources that are refused, with the message of each first fault, and sources that are spelled in
+//! other ways.
 
 use super::{Bytes, LINE, PASSED, SURE, Want, call};
 use std::alloc::Global;

@@ -34,7 +34,7 @@ const REPAIRS: [Repair; 9] = [
         1,
         NONE,
     ),
-    // A condition that reads has no patch.
+    // A condition that reads has no patch where no variable is visible.
     (
         "int main(void) { if (getchar() < 97) { putchar(121); } return 0; }",
         r#"{"tests":[{"input":"b","output":"y"}]}"#,

@@ -5,7 +5,8 @@ use std::alloc::{AllocError, Global};
 use std::process::Abort;
 use std::test::Fail;
 
-// A call on this suite, and how it must end: it is refused with these words, or where there are none it is passed.
+// A call on this suite, and how it must end: it is refused with these words, or where there are
+// none it is passed.
 fn judges(rt: &impl Abort, alloc: Global, suite: &[u8], words: &str) -> Result<(), Fail> {
     let bytes = Bytes {
         program: IDLE.as_bytes(),
@@ -178,7 +179,8 @@ fn tells_the_first_refusal_of_a_suite(rt: HostRuntime) -> Result<(), Fail> {
     )
 }
 
-/// Suites with a repeated piece: what stands before it, the piece, how often, what stands after it, and the words.
+/// Suites with a repeated piece: what stands before it, the piece, how often, what stands after it,
+/// and the words.
 const LONG: [(&str, &str, usize, &str, &str); 18] = [
     (
         r#"{"tests":["#,
@@ -324,7 +326,8 @@ fn tells_of_long_suites(rt: HostRuntime) -> Result<(), Fail> {
     Ok(())
 }
 
-/// The write that fails, and what stands on standard error after it: the message of a suite is written in pieces.
+/// The write that fails, and what stands on standard error after it: the message of a suite is
+/// written in pieces.
 const BROKEN: [(u64, &str); 6] = [
     (0, ""),
     (1, "s.json"),

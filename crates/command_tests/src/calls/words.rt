@@ -46,16 +46,35 @@ const NO_COMMANDS: [&str; 27] = [
     "repair p.c s.json --",
 ];
 
-/// What follows the names of a command, and makes the line none: options of other names, and with other numbers.
-const NO_OPTIONS: [&str; 48] = [
+/// What follows the names of a command, and makes the line none: options of other names, and with
+/// other numbers.
+const NO_OPTIONS: [&str; 66] = [
     "-h",
     "--help",
     "--version",
-    "--edit",
     "--stats",
     "--all",
     "--workers=1",
-    "--max-patches=1",
+    "--edits",
+    "-edit",
+    "--Edit",
+    "--edit=",
+    "--edit=1",
+    "--edit ",
+    "--edit --edit",
+    "--edit --limit=5 --edit",
+    "--max-patches",
+    "--max-patches=",
+    "--max-patches 5",
+    "--max-patch=5",
+    "--max_patches=5",
+    "--max-patches=x",
+    "--max-patches=0",
+    "--max-patches=65537",
+    "--max-patches=4294967297",
+    "--max-patches=00000000001",
+    "--max-patches=5 --max-patches=5",
+    "--max-patches=5 --edit --max-patches=6",
     "-limit=5",
     "---limit=5",
     "--Limit=5",
@@ -95,11 +114,11 @@ const NO_OPTIONS: [&str; 48] = [
     "--limit=5 --limit=6",
     "--limit=5 --limit=x",
     "--limit=5 --limit",
-    "--limit=5 --edit",
+    "--limit=5 --edit --limit=5",
 ];
 
 /// Commands whose limit is at least 2.
-const COMMANDS: [&str; 11] = [
+const COMMANDS: [&str; 19] = [
     "repair p.c s.json",
     "repair --limit=2 p.c s.json",
     "repair p.c --limit=2 s.json",
@@ -111,6 +130,14 @@ const COMMANDS: [&str; 11] = [
     "repair p.c s.json --limit=9999999",
     "repair p.c s.json --limit=10000000",
     "repair p.c s.json --limit=0010000000",
+    "repair p.c s.json --edit",
+    "repair --edit p.c s.json",
+    "repair p.c --edit s.json",
+    "repair p.c s.json --max-patches=1",
+    "repair --max-patches=65536 p.c s.json",
+    "repair p.c --max-patches=0000065536 s.json",
+    "repair p.c s.json --limit=2 --max-patches=9 --edit",
+    "repair --edit p.c --max-patches=9 s.json --limit=2",
 ];
 
 /// Commands whose limit is 1.
@@ -209,7 +236,8 @@ fn takes_commands(rt: HostRuntime) -> Result<(), Fail> {
     Ok(())
 }
 
-/// Words, a program and a suite, and the answer: the option's limit, else the suite's, else 100,000.
+/// Words, a program and a suite, and the answer: the option's limit, else the suite's, else
+/// 100,000.
 const LIMITS: [(&str, &str, &str, &str); 7] = [
     (
         LINE,
@@ -266,14 +294,21 @@ fn takes_the_limit_of_the_words_first(rt: HostRuntime) -> Result<(), Fail> {
     )
 }
 
-/// A program whose run takes 100,001 units: one for each of 99,999 tests of the loop, one for the entry into `main`, and
-/// one for the `return`.
+/// A program whose run takes 100,001 units: one for each of 99,999 tests of the loop, one for the
+/// entry into `main`, and one for the `return`.
 const LONG: &str = "int main(void) { int i; for (i = 99998; i; i--) ; return 0; }";
 
 #[test]
 fn takes_the_default_limit_last(rt: HostRuntime) -> Result<(), Fail> {
     let files = (LONG, r#"{"tests":[{"output":""}]}"#);
-    answers(&rt, rt.alloc(), LINE, files, NONE)?;
+    // The first patch sets the variable to itself, which traps.
+    answers(
+        &rt,
+        rt.alloc(),
+        "repair p.c s.json --max-patches=1",
+        files,
+        NONE,
+    )?;
     answers(
         &rt,
         rt.alloc(),
@@ -281,4 +316,39 @@ fn takes_the_default_limit_last(rt: HostRuntime) -> Result<(), Fail> {
         files,
         SOUND,
     )
+}
+
+/// A program whose first two patches are `a == b` and `a != b`, of which the second passes.
+const UNEQUAL: (&str, &str) = (
+    "int main(void) { int a = getchar(), b = getchar(); if (a < b) putchar('y'); }",
+    r#"{"tests":[{"input":"12","output":"y"},{"input":"21","output":"y"},
+        {"input":"11","output":""}]}"#,
+);
+
+/// What is written of its answer.
+const UNEQUAL_MENDED: &str =
+    "int main(void) { int a = getchar(), b = getchar(); if ((a != b)) putchar('y'); }";
+
+/// The line of that patch.
+const UNEQUAL_LINE: &str = "1:56+5 cost 1 replace (a != b)\n";
+
+#[test]
+fn takes_the_most_patches_of_the_words(rt: HostRuntime) -> Result<(), Fail> {
+    for (options, number, out) in [
+        ("--max-patches=1", 1, NONE),
+        ("--max-patches=2", 0, UNEQUAL_MENDED),
+        ("--limit=9", 0, UNEQUAL_MENDED),
+        ("--edit", 0, UNEQUAL_LINE),
+        ("--edit --max-patches=1", 1, NONE),
+        ("--max-patches=2 --edit", 0, UNEQUAL_LINE),
+    ] {
+        let line = format!(in rt.alloc(); "repair p.c s.json {options}")?;
+        let want = Want {
+            number,
+            out,
+            err: "",
+        };
+        ends(&rt, rt.alloc(), line.as_str(), UNEQUAL, want)?;
+    }
+    Ok(())
 }

@@ -15,6 +15,6 @@ returns-clause-gathered g c =
     let program = c.in-Ok.ensures in
     let job = c.job_with.ensures in
     let valid = sym c.in-Some.ensures ∙ ap (λ (x : Command). Some x) c.asked_by-asked.ensures in
-    job_states _ (asked_of c.asked_by-asked.result) (job_of c.job_with.result) _ _ _ _ valid program.program
+    job_states _ (asked_of c.asked_by-asked.result) (job_of c.job_with.result) _ _ _ _ valid program.program program.ordered
     (suite_held _ _ _ 0 0 0 _ _ program.held c.in-Ok-suite_named.ensures.suite)
-    job.source job.program job.tests job.limit job.patches
+    job.source job.program job.tests job.limit job.patches job.shown

@@ -4,6 +4,7 @@ use Rattle.repair_cli.specs.Complete.{IsFaultless}
 use Rattle.repair_cli.specs.Refusal.{status_of, message_of}
 use Rattle.repair_cli.specs.Source.{source}
 use Rattle.repair_cli.proofs.Lengths.{cause_within, is_faultless}
+use Rattle.repair_cli.proofs.Reading.{each_read}
 use Rattle.repair_cli.proofs.Steps.{answer_reported}
 use Rattle.repair_cli.proofs.run.run_alone.Goals as goal
 
@@ -17,3 +18,9 @@ returns-in-Err-clause-complete g c sure files room_out room =
     let within = cause_within given (status_of c.in-Err.refusal) (message_of c.in-Err.refusal) cause in
     let is = c.refuse.ensures.room (omega (arith, within, room)) in
     subst IsFaultless (sym is) (is_faultless given c.in-Err.refusal (c.in-Err.ensures.sure sure files) cause)
+
+pub returns-in-Ok-clause-read_again : goal.returns-in-Ok-clause-read_again
+returns-in-Ok-clause-read_again g c = each_read c.texts_are_read_again.ensures _
+
+pub returns-in-Err-clause-read_again : goal.returns-in-Err-clause-read_again
+returns-in-Err-clause-read_again g c = each_read c.texts_are_read_again.ensures _
