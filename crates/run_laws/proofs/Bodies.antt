@@ -1,34 +1,32 @@
 -- In the statements and declarations of a checked program each name finds its object.
-use Rattle.std.proofs.Common.{◌≡◌, ℕ, zero, suc, ◌+◌, ◌≤◌, ℤ, pos, List, [], ◌∷◌, ◌++◌, length, map, Option, Some, None, Bool, true, false, refl, sym, ap, subst, arith}
-use Rattle.std.specs.Prelude.{⊤, All, Contains}
-use Rattle.std.specs.List.{flat_map}
+use Rattle.std.proofs.Common.{◌≡◌, ◌≢◌, ℕ, zero, suc, ◌+◌, ◌≤◌, ℤ, pos, List, [], ◌∷◌, ◌++◌, length, map, Option, Some, None, Bool, true, false, refl, arith}
+use Rattle.std.specs.Prelude.{⊤, Contains}
 use Rattle.std.proofs.lemmas.List.Elements.{All-head}
 use Rattle.c_tree.specs.declared.stmt.Slot.{Slot}
+use Rattle.c_tree.specs.declared.stmt.Slot.TheVariants.{Unset}
 use Rattle.c_tree.specs.declared.stmt.Ty.{Ty}
 use Rattle.c_tree.specs.Tree.{Tree, Initial, bare_start, one_start, list_start, Variable, First, no_first, first_act, first_vars, Code, empty, act, block, if_then, if_else, while, do_while, for, give, break, continue, Body, done, next, vars, Outer}
 use Rattle.c_arith.specs.Arith.{is_zero}
 use Rattle.c_types.specs.declared.scope.Declaration.{Declaration}
 use Rattle.c_types.specs.declared.scope.Storage.{Storage}
-use Rattle.c_types.specs.declared.scope.Storage.TheVariants.{Automatic}
+use Rattle.c_types.specs.declared.scope.Storage.TheVariants.{Static, Automatic}
 use Rattle.c_types.specs.Slots.{first_count, code_count, slot_in, numbered_variable, numbered, numbered_first, resolved_tree, resolved_option, resolved_initial, resolved_variables, resolved_first, resolved_code, resolved_body}
 use Rattle.c_types.specs.Statements.{is_array, variable_declaration, declared, first_declared}
-use Rattle.c_types.specs.Uses.{tree_uses, option_uses, initial_uses, variables_uses, first_uses, code_uses, body_uses, IsResolved}
 use Rattle.c_meaning.specs.declared.stop.Flow.{Flow}
 use Rattle.c_meaning.specs.declared.stop.Flow.TheVariants.{Next, Break, Continue, Return}
 use Rattle.c_meaning.specs.World.{World, Out, going, over, waiting, Run, and_then, pure, used, ◌>>◌}
 use Rattle.c_meaning.specs.Steps.{unit, store}
-use Rattle.c_meaning.specs.Meaning.{Filling, Called, turn_of_while, turn_test_first, turn_body_first, cell_count, make_variable, eval, declare_local, declare, begin, test_of, step_of, exec, declare_global, declare_globals}
-use Rattle.run_laws.specs.Typed.{HasObject, EntityHasObject, IsTypedBy, Keeps, IsSteady}
+use Rattle.c_meaning.specs.Meaning.{Filling, Called, cell_count, make_variable, eval, declare_local, declare, begin, exec, declare_global}
+use Rattle.run_laws.specs.Typed.{HasObject, HasCells, EntityHasObject, IsTypedBy, IsSteady}
 use Rattle.run_laws.specs.Holes.{Names}
 use Rattle.run_laws.specs.Places.{below}
 use Rattle.run_laws.specs.Reads.{Then, FindsObject, Inside, Finds}
-use Rattle.run_laws.specs.Bodies.{IfNext, IfStays, IfAgain, InTestTurn, InBodyTurn, InTurns, InLoop, unit_for, listed, FindsOption, FindsList, FindsInitial, FindsLocals, FindsGlobals, FindsFirst, FindsCode, FindsBody}
+use Rattle.run_laws.specs.Bodies.{IfNext, IfStays, IfAgain, InTestTurn, InBodyTurn, InTurns, unit_for, listed, FindsOption, FindsList, FindsInitial, FindsLocals, FindsGlobals, FindsFirst, FindsCode, FindsBody}
 use Rattle.run_laws.proofs.Well.{Well, WellOption, WellList, WellInitial, WellVariables, WellFirst, WellCode, WellBody}
-use Rattle.run_laws.proofs.Keeping.{All-left, All-right, AllWithin, keeps_refl, keeps_fewer, typed_moves, Any, From, from_going, from_other, from_bind}
-use Rattle.run_laws.proofs.Sound.{Context, At, Sound, at_moves, units, stores, pures, used_sound, test_turn_sound, body_turn_sound, before, within_cons, within_declared, variable_from, one_cell}
-use Rattle.run_laws.proofs.Runs.{CallsKeep, eval_sound, test_sound, step_sound, has_typed, local_from, global_from, declare_from, globals_from, within_first, later, begin_from, exec_sound}
-use Rattle.run_laws.proofs.Faultless.{declared-resolved, first_declared-resolved}
-use Rattle.run_laws.proofs.Finding.{then_holds, then_made, chosen_by, CallsFind, finds}
+use Rattle.run_laws.proofs.Keeping.{AllWithin, typed_moves}
+use Rattle.run_laws.proofs.Sound.{Context, At, Sound, at_moves, units, stores, pures, used_sound, test_turn_sound, body_turn_sound, before, within_cons, within_declared, variable_from, cells_from, one_cell}
+use Rattle.run_laws.proofs.Runs.{CallsKeep, eval_sound, test_sound, step_sound, has_typed, local_from, global_from, declare_from, within_first, later, begin_from, exec_sound}
+use Rattle.run_laws.proofs.Finding.{then_holds, then_made, then_both, chosen_by, CallsFind, finds}
 
 if_next : (f : Flow) (P : Type 0) → P → IfNext f P
 if_next Next P p = p
@@ -47,7 +45,12 @@ if_again (Some f) P p = tt
 if_again None P p = p
 
 object_found : (w : World) (slot : Slot) (ty : Ty) (array : Bool) → HasObject w slot ty array → FindsObject w slot array
-object_found w slot ty array has = record { ty = ty; array = array; has = has; indexed = λ e. e }
+object_found w slot ty array has = record { ty = ty; has = has }
+
+-- the slots of declared variables are set
+slot_set : (storage : Storage) (n : ℕ) → slot_in storage n ≢ Unset
+slot_set Automatic n h = cc
+slot_set Static n h = cc
 
 -- what holds after both of two parts holds of the second after the first
 then_bind : {A B : Type 0} (o : Out A) (f : A → Run B) (T : B → World → Type 0) → Then o (λ a x. Then (f a x) T) → Then (and_then o f) T
@@ -68,8 +71,8 @@ module _ (k : Context) where
       let here = at_moves k w x keeps at in (
         f x here,
         then_holds (t x) _ (st.by x here) (λ v y more.
-            let there = at_moves k x y more here in
-            chosen_by (is_zero v) ⊤ _ (λ z. tt) (λ z. (g y there, then_holds (b y) _ (sb.by y there) (λ flow q last. if_stays flow _ (l q (at_moves k y q last there)))))),
+            let after = at_moves k x y more here in
+            chosen_by (is_zero v) ⊤ _ (λ z. tt) (λ z. (g y after, then_holds (b y) _ (sb.by y after) (λ flow q last. if_stays flow _ (l q (at_moves k y q last after)))))),
       ))
 
   body_turn : (B T : World → Type 0) (b : Run Flow) → Always B → Always T → Sound k b → Always (InBodyTurn B b T)
@@ -84,42 +87,42 @@ module _ (k : Context) where
   in_turns T t f s zero w at = tt
   in_turns T t f s (suc n) w at = (f w at, then_holds (t w) _ (s.by w at) (λ o x keeps. if_again o _ (in_turns T t f s n x (at_moves k w x keeps at))))
 
-module _ (filling : Filling) (steady : IsSteady filling) (program : List Outer) (scopes : List Names) (called : Called) (inside : Inside) where
+module _ (filling : Filling) (steady : IsSteady filling) (program : List Outer) (scopes : List Names) (there : Type 0) (sure : there) (called : Called) (inside : Inside) where
   -- ---- initialisers
 
   module _ (k : Context) (at_hole : (ds : Names) → Contains scopes ds → (x : World) → IsTypedBy ds x → k.waits x) (keep : CallsKeep k.waits k.file k.may_call program called) (enter : CallsFind k.file k.may_call program inside) where
-    tree_finds : (own : Option (List ℕ)) (e : Tree) → Well program scopes k.may_call k.scope e → All IsResolved (tree_uses k.scope own (resolved_tree k.scope e)) → (w : World) → At k w → Finds filling program called inside (resolved_tree k.scope e) w
-    tree_finds own e h u w at = finds filling steady program scopes called k at_hole keep inside enter own e h u w at
+    tree_finds : (wanted : Bool) (e : Tree) → Well program scopes there k.may_call k.scope wanted e → (w : World) → At k w → Finds filling program called inside wanted (resolved_tree k.scope e) w
+    tree_finds wanted e h w at = finds filling steady program scopes there sure called k at_hole keep inside enter wanted e h w at
 
-    value_sound : (e : Tree) → Well program scopes k.may_call k.scope e → Sound k (used (eval filling program called (resolved_tree k.scope e)))
-    value_sound e h = used_sound (eval_sound filling steady program scopes called k at_hole keep e h)
+    value_sound : (e : Tree) → Well program scopes there k.may_call k.scope true e → Sound k (used (eval filling program called (resolved_tree k.scope e)))
+    value_sound e h = used_sound (eval_sound filling steady program scopes there called k at_hole keep true e h)
 
-    option_finds : (o : Option Tree) → WellOption program scopes k.may_call k.scope o → All IsResolved (option_uses k.scope (resolved_option k.scope o)) → (w : World) → At k w → FindsOption filling program called inside (resolved_option k.scope o) w
-    option_finds None h u w at = tt
-    option_finds (Some e) h u w at = tree_finds None e h u w at
+    option_finds : (wanted : Bool) (o : Option Tree) → WellOption program scopes there k.may_call k.scope wanted o → (w : World) → At k w → FindsOption filling program called inside wanted (resolved_option k.scope o) w
+    option_finds wanted None h w at = tt
+    option_finds wanted (Some e) h w at = tree_finds wanted e h w at
 
     module _ (slot : Slot) (ty : Ty) (array : Bool) (has : (x : World) → At k x → HasObject x slot ty array) where
-      list_finds : (i : ℕ) (es : List Tree) → WellList program scopes k.may_call k.scope es → All IsResolved (flat_map (tree_uses k.scope None) (map (resolved_tree k.scope) es)) → (w : World) → At k w
+      list_finds : (i : ℕ) (es : List Tree) → WellList program scopes there k.may_call k.scope es → (w : World) → At k w
           → FindsList filling program called inside slot array i (map (resolved_tree k.scope) es) w
-      list_finds i [] h u w at = object_found w slot ty array (has w at)
-      list_finds i (e ∷ es) h u w at = (
-        tree_finds None e h.0 (All-left IsResolved _ _ u) w at,
+      list_finds i [] h w at = object_found w slot ty array (has w at)
+      list_finds i (e ∷ es) h w at = (
+        tree_finds true e h.0 w at,
         then_holds (used (eval filling program called (resolved_tree k.scope e)) w) _ ((value_sound e h.0).by w at) (λ v x keeps.
             let here = at_moves k w x keeps at in (
               object_found x slot ty array (has x here),
               then_holds (store slot (pos i) v x) _ ((stores {k = k} slot (pos i) v).by x here)
-                  (λ q y more. list_finds (suc i) es h.1 (All-right IsResolved (tree_uses k.scope None (resolved_tree k.scope e)) _ u) y (at_moves k x y more here)),
+                  (λ q y more. list_finds (suc i) es h.1 y (at_moves k x y more here)),
             )),
       )
 
-      initial_finds : (word : List ℕ) (start : Initial) → WellInitial program scopes k.may_call k.scope start → All IsResolved (initial_uses k.scope word (resolved_initial k.scope start)) → (w : World) → At k w
+      initial_finds : (start : Initial) → WellInitial program scopes there k.may_call k.scope start → (w : World) → At k w
           → FindsInitial filling program called inside slot array (resolved_initial k.scope start) w
-      initial_finds word bare_start h u w at = object_found w slot ty array (has w at)
-      initial_finds word (one_start e) h u w at = (
-        tree_finds (Some word) e h u w at,
+      initial_finds bare_start h w at = object_found w slot ty array (has w at)
+      initial_finds (one_start e) h w at = (
+        tree_finds true e h w at,
         then_holds (used (eval filling program called (resolved_tree k.scope e)) w) _ ((value_sound e h).by w at) (λ v x keeps. object_found x slot ty array (has x (at_moves k w x keeps at))),
       )
-      initial_finds word (list_start es) h u w at = list_finds 0 es h u w at
+      initial_finds (list_start es) h w at = list_finds 0 es h w at
 
   -- ---- declarations
 
@@ -139,57 +142,61 @@ module _ (filling : Filling) (steady : IsSteady filling) (program : List Outer) 
       own_object x at = All-head (λ (d : Declaration). EntityHasObject x d.entity) it ds at.typed
 
       -- the object is made, and then its initialiser is evaluated
-      start_finds : (start : Initial) (count : ℕ) → (is_array v.shape ≡ false → count ≡ 1) → WellInitial program scopes may_call (it ∷ ds) start → All IsResolved (initial_uses (it ∷ ds) v.word (resolved_initial (it ∷ ds) start))
+      start_finds : (start : Initial) (count : ℕ) → (is_array v.shape ≡ false → count ≡ 1) → WellInitial program scopes there may_call (it ∷ ds) start
           → (w : World) → At (place n ds h) w
-          → Then (make_variable ty (slot_in storage n) count w) (λ u x. FindsInitial filling program called inside (slot_in storage n) (is_array v.shape) (resolved_initial (it ∷ ds) start) x)
-      start_finds start count one well names w at =
-          then_made (make_variable ty (slot_in storage n) count w) _ (variable_from {W = W} storage n ty count (is_array v.shape) one w)
-          (λ u x keeps has.
-          initial_finds inner at_hole keep enter (slot_in storage n) ty (is_array v.shape) own_object v.word start well names x
-          (record { typed = has_typed filling steady program scopes called W file may_call at_hole keep storage files n ty v ds h w x at keeps has; of_file = λ c. typed_moves (before storage n) file w x (files n) keeps (at.of_file c) }))
+          → Then (make_variable ty (slot_in storage n) count w) (λ u x. HasCells x (slot_in storage n) count × FindsInitial filling program called inside (slot_in storage n) (is_array v.shape) (resolved_initial (it ∷ ds) start) x)
+      start_finds start count one well w at =
+          then_both (make_variable ty (slot_in storage n) count w) _ (variable_from {W = W} storage n ty count (is_array v.shape) one w) (cells_from {W = W} storage n ty count w)
+          (λ u x keeps has cells. (
+            cells,
+            initial_finds inner at_hole keep enter (slot_in storage n) ty (is_array v.shape) own_object start well x
+                (record { typed = has_typed filling steady program scopes there called W file may_call at_hole keep storage files n ty v ds h w x at keeps has; of_file = λ c. typed_moves (before storage n) file w x (files n) keeps (at.of_file c) }),
+          ))
 
       -- the same after the unit of a declaration in a function
-      paid_finds : (start : Initial) → WellInitial program scopes may_call (it ∷ ds) start → All IsResolved (initial_uses (it ∷ ds) v.word (resolved_initial (it ∷ ds) start)) → (w : World) → At (place n ds h) w
+      paid_finds : (start : Initial) → WellInitial program scopes there may_call (it ∷ ds) start → (w : World) → At (place n ds h) w
           → Then ((unit_for (resolved_initial (it ∷ ds) start) >> make_variable ty (slot_in storage n) (cell_count v.shape (listed (resolved_initial (it ∷ ds) start)))) w)
-          (λ u x. FindsInitial filling program called inside (slot_in storage n) (is_array v.shape) (resolved_initial (it ∷ ds) start) x)
-      paid_finds bare_start well names w at = start_finds bare_start (cell_count v.shape 0) (one_cell v.shape 0) well names w at
-      paid_finds (one_start e) well names w at =
+          (λ u x. HasCells x (slot_in storage n) (cell_count v.shape (listed (resolved_initial (it ∷ ds) start))) × FindsInitial filling program called inside (slot_in storage n) (is_array v.shape) (resolved_initial (it ∷ ds) start) x)
+      paid_finds bare_start well w at = start_finds bare_start (cell_count v.shape 0) (one_cell v.shape 0) well w at
+      paid_finds (one_start e) well w at =
           then_bind (unit w) _ _ (then_holds (unit w) _ ((units {k = place n ds h}).by w at)
-          (λ u x keeps. start_finds (one_start e) (cell_count v.shape 1) (one_cell v.shape 1) well names x (at_moves (place n ds h) w x keeps at)))
-      paid_finds (list_start es) well names w at =
+          (λ u x keeps. start_finds (one_start e) (cell_count v.shape 1) (one_cell v.shape 1) well x (at_moves (place n ds h) w x keeps at)))
+      paid_finds (list_start es) well w at =
           let count = length (map (resolved_tree (it ∷ ds)) es) in
           then_bind (unit w) _ _ (then_holds (unit w) _ ((units {k = place n ds h}).by w at)
-          (λ u x keeps. start_finds (list_start es) (cell_count v.shape count) (one_cell v.shape count) well names x (at_moves (place n ds h) w x keeps at)))
+          (λ u x keeps. start_finds (list_start es) (cell_count v.shape count) (one_cell v.shape count) well x (at_moves (place n ds h) w x keeps at)))
 
-    locals_find : (n : ℕ) (ty : Ty) (vs : List Variable) (here around : List Declaration) (h : AllWithin (before storage n) (here ++ around)) → WellVariables program scopes may_call storage here around n ty vs
-        → All IsResolved (variables_uses here around ty (resolved_variables here around ty (numbered (slot_in storage) n vs)))
+    locals_find : (n : ℕ) (ty : Ty) (vs : List Variable) (here around : List Declaration) (h : AllWithin (before storage n) (here ++ around)) → WellVariables program scopes there may_call storage here around n ty vs
         → (w : World) → At (place n (here ++ around) h) w → FindsLocals filling program called inside ty (resolved_variables here around ty (numbered (slot_in storage) n vs)) w
-    locals_find n ty [] here around h well u w at = tt
-    locals_find n ty (v ∷ vs) here around h well u w at =
+    locals_find n ty [] here around h well w at = tt
+    locals_find n ty (v ∷ vs) here around h well w at =
         let d = variable_declaration ty (numbered_variable (slot_in storage n) v) in
         let start = resolved_initial (d ∷ (here ++ around)) v.start in (
-          paid_finds n ty v (here ++ around) h v.start well.0 (All-left IsResolved _ _ u) w at,
+          slot_set storage n,
+          well.2,
+          paid_finds n ty v (here ++ around) h v.start well.0 w at,
           then_made (declare_local filling program called ty (slot_in storage n) v.shape start w) _
-              (local_from filling steady program scopes called W file may_call at_hole keep storage files n ty v (here ++ around) h v.start well.0 w at)
+              (local_from filling steady program scopes there called W file may_call at_hole keep storage files n ty v (here ++ around) h v.start well.0 w at)
               (λ o x keeps typed.
               locals_find (suc n) ty vs (d ∷ here) around (within_cons storage n ty v (here ++ around) h) well.1
-              (All-right IsResolved (initial_uses (d ∷ (here ++ around)) v.word start) _ u) x
+              x
               (record { typed = typed; of_file = λ c. typed_moves (before storage n) file w x (files n) keeps (at.of_file c) })),
         )
 
-    pub globals_find : (n : ℕ) (ty : Ty) (vs : List Variable) (here around : List Declaration) (h : AllWithin (before storage n) (here ++ around)) → WellVariables program scopes may_call storage here around n ty vs
-        → All IsResolved (variables_uses here around ty (resolved_variables here around ty (numbered (slot_in storage) n vs)))
+    pub globals_find : (n : ℕ) (ty : Ty) (vs : List Variable) (here around : List Declaration) (h : AllWithin (before storage n) (here ++ around)) → WellVariables program scopes there may_call storage here around n ty vs
         → (w : World) → At (place n (here ++ around) h) w → FindsGlobals filling program called inside ty (resolved_variables here around ty (numbered (slot_in storage) n vs)) w
-    globals_find n ty [] here around h well u w at = tt
-    globals_find n ty (v ∷ vs) here around h well u w at =
+    globals_find n ty [] here around h well w at = tt
+    globals_find n ty (v ∷ vs) here around h well w at =
         let d = variable_declaration ty (numbered_variable (slot_in storage n) v) in
         let start = resolved_initial (d ∷ (here ++ around)) v.start in (
-          start_finds n ty v (here ++ around) h v.start (cell_count v.shape (listed start)) (one_cell v.shape (listed start)) well.0 (All-left IsResolved _ _ u) w at,
+          slot_set storage n,
+          well.2,
+          start_finds n ty v (here ++ around) h v.start (cell_count v.shape (listed start)) (one_cell v.shape (listed start)) well.0 w at,
           then_made (declare_global filling program called ty (slot_in storage n) v.shape start w) _
-              (global_from filling steady program scopes called W file may_call at_hole keep storage files n ty v (here ++ around) h v.start well.0 w at)
+              (global_from filling steady program scopes there called W file may_call at_hole keep storage files n ty v (here ++ around) h v.start well.0 w at)
               (λ o x keeps typed.
               globals_find (suc n) ty vs (d ∷ here) around (within_cons storage n ty v (here ++ around) h) well.1
-              (All-right IsResolved (initial_uses (d ∷ (here ++ around)) v.word start) _ u) x
+              x
               (record { typed = typed; of_file = λ c. typed_moves (before storage n) file w x (files n) keeps (at.of_file c) })),
         )
 
@@ -200,117 +207,108 @@ module _ (filling : Filling) (steady : IsSteady filling) (program : List Outer) 
     abbrev here_at : (n : ℕ) (ds : List Declaration) → AllWithin (below n) ds → Context
     here_at n ds h = record { waits = W; file = file; may_call = may_call; slots = below n; scope = ds; in_scope = h; in_file = files n }
 
-    expression_finds : (n : ℕ) (ds : List Declaration) (h : AllWithin (below n) ds) (e : Tree) → Well program scopes may_call ds e → All IsResolved (tree_uses ds None (resolved_tree ds e)) → (w : World) → At (here_at n ds h) w → Finds filling program called inside (resolved_tree ds e) w
-    expression_finds n ds h e well u w at = tree_finds (here_at n ds h) at_hole keep enter None e well u w at
+    expression_finds : (n : ℕ) (ds : List Declaration) (h : AllWithin (below n) ds) (wanted : Bool) (e : Tree) → Well program scopes there may_call ds wanted e → (w : World) → At (here_at n ds h) w → Finds filling program called inside wanted (resolved_tree ds e) w
+    expression_finds n ds h wanted e well w at = tree_finds (here_at n ds h) at_hole keep enter wanted e well w at
 
-    number_sound : (n : ℕ) (ds : List Declaration) (h : AllWithin (below n) ds) (e : Tree) → Well program scopes may_call ds e → Sound (here_at n ds h) (used (eval filling program called (resolved_tree ds e)))
+    number_sound : (n : ℕ) (ds : List Declaration) (h : AllWithin (below n) ds) (e : Tree) → Well program scopes there may_call ds true e → Sound (here_at n ds h) (used (eval filling program called (resolved_tree ds e)))
     number_sound n ds h e well = value_sound (here_at n ds h) at_hole keep enter e well
 
-    code_sound : (c : Code) (n : ℕ) (ds : List Declaration) (h : AllWithin (below n) ds) → WellCode program scopes may_call ds n c → Sound (here_at n ds h) (exec filling program called (resolved_code ds n c))
-    code_sound c n ds h well = exec_sound filling steady program scopes called W file may_call at_hole keep files c n ds h well
+    code_sound : (c : Code) (n : ℕ) (ds : List Declaration) (h : AllWithin (below n) ds) → WellCode program scopes there may_call ds n c → Sound (here_at n ds h) (exec filling program called (resolved_code ds n c))
+    code_sound c n ds h well = exec_sound filling steady program scopes there called W file may_call at_hole keep files c n ds h well
 
     more_slots : (n m : ℕ) (ds : List Declaration) → n ≤ m → AllWithin (below n) ds → AllWithin (below m) ds
-    more_slots n m ds le h = later filling steady program scopes called W file may_call at_hole keep files n m ds le h
+    more_slots n m ds le h = later filling steady program scopes there called W file may_call at_hole keep files n m ds le h
 
-    first_finds : (n : ℕ) (i : First) (ds : List Declaration) (h : AllWithin (below n) ds) → WellFirst program scopes may_call ds n i → All IsResolved (first_uses ds (resolved_first ds (numbered_first n i))) → (w : World) → At (here_at n ds h) w
+    first_finds : (n : ℕ) (i : First) (ds : List Declaration) (h : AllWithin (below n) ds) → WellFirst program scopes there may_call ds n i → (w : World) → At (here_at n ds h) w
         → FindsFirst filling program called inside (resolved_first ds (numbered_first n i)) w
-    first_finds n no_first ds h well u w at = tt
-    first_finds n (first_act e) ds h well u w at = expression_finds n ds h e well u w at
-    first_finds n (first_vars ty vs) ds h well u w at = locals_find W file may_call at_hole keep enter Automatic files n ty vs [] ds h well u w at
+    first_finds n no_first ds h well w at = tt
+    first_finds n (first_act e) ds h well w at = expression_finds n ds h false e well w at
+    first_finds n (first_vars ty vs) ds h well w at = locals_find W file may_call at_hole keep enter Automatic files n ty vs [] ds h well w at
 
     mutual
-      code_finds : (c : Code) (n : ℕ) (ds : List Declaration) (h : AllWithin (below n) ds) → WellCode program scopes may_call ds n c → All IsResolved (code_uses ds (resolved_code ds n c)) → (w : World) → At (here_at n ds h) w
+      code_finds : (c : Code) (n : ℕ) (ds : List Declaration) (h : AllWithin (below n) ds) → WellCode program scopes there may_call ds n c → (w : World) → At (here_at n ds h) w
           → FindsCode filling program called inside (resolved_code ds n c) w
-      code_finds (empty s) n ds h well u w at = tt
-      code_finds (act e s) n ds h well u w at =
-          then_holds (unit w) _ ((units {k = here_at n ds h}).by w at) (λ o x keeps. expression_finds n ds h e well u x (at_moves (here_at n ds h) w x keeps at))
-      code_finds (block body s) n ds h well u w at = body_finds body n [] ds h well u w at
-      code_finds (if_then t a s) n ds h well u w at =
+      code_finds (empty s) n ds h well w at = tt
+      code_finds (act e s) n ds h well w at =
+          then_holds (unit w) _ ((units {k = here_at n ds h}).by w at) (λ o x keeps. expression_finds n ds h false e well x (at_moves (here_at n ds h) w x keeps at))
+      code_finds (block body s) n ds h well w at = body_finds body n [] ds h well w at
+      code_finds (if_then t a s) n ds h well w at =
           let k = here_at n ds h in
           then_holds (unit w) _ ((units {k = k}).by w at) (λ o x keeps.
           let here = at_moves k w x keeps at in (
-            expression_finds n ds h t well.0 (All-left IsResolved _ _ u) x here,
+            expression_finds n ds h true t well.0 x here,
             then_holds (used (eval filling program called (resolved_tree ds t)) x) _ ((number_sound n ds h t well.0).by x here) (λ v y more.
-                let there = at_moves k x y more here in
-                chosen_by (is_zero v) ⊤ _ (λ z. tt) (λ z. code_finds a n ds h well.1 (All-right IsResolved (tree_uses ds None (resolved_tree ds t)) _ u) y there)),
+                let after = at_moves k x y more here in
+                chosen_by (is_zero v) ⊤ _ (λ z. tt) (λ z. code_finds a n ds h well.1 y after)),
           ))
-      code_finds (if_else t a b s) n ds h well u w at =
+      code_finds (if_else t a b s) n ds h well w at =
           let k = here_at n ds h in
-          let rest = All-right IsResolved (tree_uses ds None (resolved_tree ds t)) _ u in
           then_holds (unit w) _ ((units {k = k}).by w at) (λ o x keeps.
           let here = at_moves k w x keeps at in (
-            expression_finds n ds h t well.0 (All-left IsResolved _ _ u) x here,
+            expression_finds n ds h true t well.0 x here,
             then_holds (used (eval filling program called (resolved_tree ds t)) x) _ ((number_sound n ds h t well.0).by x here) (λ v y more.
-                let there = at_moves k x y more here in
+                let after = at_moves k x y more here in
                 chosen_by (is_zero v) _ _
-                (λ z. code_finds b (n + code_count a) ds (more_slots n (n + code_count a) ds (omega arith) h) well.1.1 (All-right IsResolved (code_uses ds (resolved_code ds n a)) _ rest) y (record { typed = there.typed; of_file = there.of_file }))
-                (λ z. code_finds a n ds h well.1.0 (All-left IsResolved _ _ rest) y there)),
+                (λ z. code_finds b (n + code_count a) ds (more_slots n (n + code_count a) ds (omega arith) h) well.1.1 y (record { typed = after.typed; of_file = after.of_file }))
+                (λ z. code_finds a n ds h well.1.0 y after)),
           ))
-      code_finds (while t a s) n ds h well u w at =
+      code_finds (while t a s) n ds h well w at =
           let k = here_at n ds h in
           let ts = number_sound n ds h t well.0 in
           let bs = code_sound a n ds h well.1 in
           in_turns k _ _
-          (test_turn k _ _ (λ x. ⊤) _ _ (λ x here. expression_finds n ds h t well.0 (All-left IsResolved _ _ u) x here)
-          (λ x here. code_finds a n ds h well.1 (All-right IsResolved (tree_uses ds None (resolved_tree ds t)) _ u) x here) (λ x here. tt) ts bs)
+          (test_turn k _ _ (λ x. ⊤) _ _ (λ x here. expression_finds n ds h true t well.0 x here)
+          (λ x here. code_finds a n ds h well.1 x here) (λ x here. tt) ts bs)
           (test_turn_sound _ _ (pure tt) ts bs (pures tt)) (suc w.units) w at
-      code_finds (do_while a t s) n ds h well u w at =
+      code_finds (do_while a t s) n ds h well w at =
           let k = here_at n ds h in
           let ts = number_sound n ds h t well.1 in
           let bs = code_sound a n ds h well.0 in
           in_turns k _ _
-          (body_turn k _ _ _ (λ x here. code_finds a n ds h well.0 (All-left IsResolved _ _ u) x here)
-          (λ x here. expression_finds n ds h t well.1 (All-right IsResolved (code_uses ds (resolved_code ds n a)) _ u) x here) bs)
+          (body_turn k _ _ _ (λ x here. code_finds a n ds h well.0 x here)
+          (λ x here. expression_finds n ds h true t well.1 x here) bs)
           (body_turn_sound _ _ bs ts) (suc w.units) w at
-      code_finds (for f t q a s) n ds h well u w at =
+      code_finds (for f t q a s) n ds h well w at =
           let i = numbered_first n f in
           let es = first_declared i ++ ds in
           let m = n + first_count f in
-          let g : AllWithin (below m) es = within_first filling steady program scopes called W file may_call at_hole keep files n f ds h in
+          let g : AllWithin (below m) es = within_first filling steady program scopes there called W file may_call at_hole keep files n f ds h in
           let k = here_at m es g in
-          let same : first_declared (resolved_first ds i) ++ ds ≡ es = ap (λ z. z ++ ds) (first_declared-resolved ds i) in
-          let names : All IsResolved (option_uses es (resolved_option es t) ++ (option_uses es (resolved_option es q) ++ code_uses es (resolved_code es m a))) =
-          subst (λ (z : List Declaration). All IsResolved (option_uses z (resolved_option es t) ++ (option_uses z (resolved_option es q) ++ code_uses z (resolved_code es m a)))) same
-          (All-right IsResolved (first_uses ds (resolved_first ds i)) _ u) in
-          let more = All-right IsResolved (option_uses es (resolved_option es t)) _ names in
-          let ts = test_sound filling steady program scopes called k at_hole keep t well.1.0 in
+          let ts = test_sound filling steady program scopes there called k at_hole keep t well.1.0 in
           let bs = code_sound a m es g well.1.1.1 in
-          let ss = step_sound filling steady program scopes called k at_hole keep q well.1.1.0 in (
-            first_finds n f ds h well.0 (All-left IsResolved _ _ u) w at,
-            then_made (begin filling program called (resolved_first ds i) w) _ (begin_from filling steady program scopes called W file may_call at_hole keep files n f ds h well.0 w at) (λ o x keeps typed.
+          let ss = step_sound filling steady program scopes there called k at_hole keep q well.1.1.0 in (
+            first_finds n f ds h well.0 w at,
+            then_made (begin filling program called (resolved_first ds i) w) _ (begin_from filling steady program scopes there called W file may_call at_hole keep files n f ds h well.0 w at) (λ o x keeps typed.
                 let here : At k x = record { typed = typed; of_file = λ c. typed_moves (below n) file w x (files n) keeps (at.of_file c) } in
                 in_turns k _ _
-                (test_turn k _ _ _ _ _ (λ y there. option_finds k at_hole keep enter t well.1.0 (All-left IsResolved _ _ names) y there)
-                (λ y there. code_finds a m es g well.1.1.1 (All-right IsResolved (option_uses es (resolved_option es q)) _ more) y there)
-                (λ y there. option_finds k at_hole keep enter q well.1.1.0 (All-left IsResolved _ _ more) y there) ts bs)
+                (test_turn k _ _ _ _ _ (λ y after. option_finds k at_hole keep enter true t well.1.0 y after)
+                (λ y after. code_finds a m es g well.1.1.1 y after)
+                (λ y after. option_finds k at_hole keep enter false q well.1.1.0 y after) ts bs)
                 (test_turn_sound _ _ _ ts bs ss) (suc x.units) x here),
           )
-      code_finds (give e s) n ds h well u w at =
-          then_holds (unit w) _ ((units {k = here_at n ds h}).by w at) (λ o x keeps. option_finds (here_at n ds h) at_hole keep enter e well u x (at_moves (here_at n ds h) w x keeps at))
-      code_finds (break s) n ds h well u w at = tt
-      code_finds (continue s) n ds h well u w at = tt
+      code_finds (give e s) n ds h well w at =
+          then_holds (unit w) _ ((units {k = here_at n ds h}).by w at) (λ o x keeps. option_finds (here_at n ds h) at_hole keep enter true e well x (at_moves (here_at n ds h) w x keeps at))
+      code_finds (break s) n ds h well w at = tt
+      code_finds (continue s) n ds h well w at = tt
 
-      pub body_finds : (b : Body) (n : ℕ) (here around : List Declaration) (h : AllWithin (below n) (here ++ around)) → WellBody program scopes may_call here around n b → All IsResolved (body_uses here around (resolved_body here around n b))
+      pub body_finds : (b : Body) (n : ℕ) (here around : List Declaration) (h : AllWithin (below n) (here ++ around)) → WellBody program scopes there may_call here around n b
           → (w : World) → At (here_at n (here ++ around) h) w → FindsBody filling program called inside (resolved_body here around n b) w
-      body_finds done n here around h well u w at = tt
-      body_finds (next c rest) n here around h well u w at =
+      body_finds done n here around h well w at = tt
+      body_finds (next c rest) n here around h well w at =
           let ds = here ++ around in (
-            code_finds c n ds h well.0 (All-left IsResolved _ _ u) w at,
+            code_finds c n ds h well.0 w at,
             then_holds (exec filling program called (resolved_code ds n c) w) _ ((code_sound c n ds h well.0).by w at) (λ flow x keeps.
-                let there = at_moves (here_at n ds h) w x keeps at in
+                let after = at_moves (here_at n ds h) w x keeps at in
                 if_next flow _
-                (body_finds rest (n + code_count c) here around (more_slots n (n + code_count c) ds (omega arith) h) well.1 (All-right IsResolved (code_uses ds (resolved_code ds n c)) _ u) x (record { typed = there.typed; of_file = there.of_file }))),
+                (body_finds rest (n + code_count c) here around (more_slots n (n + code_count c) ds (omega arith) h) well.1 x (record { typed = after.typed; of_file = after.of_file }))),
           )
-      body_finds (vars ty vs rest) n here around h well u w at =
+      body_finds (vars ty vs rest) n here around h well w at =
           let ws = numbered (slot_in Automatic) n vs in
           let rs = resolved_variables here around ty ws in
           let es = declared ty ws here in
           let m = n + length vs in
-          let g : AllWithin (below m) (es ++ around) = within_declared Automatic n m ty vs here around refl h in
-          let same : declared ty rs here ≡ es = declared-resolved here around ty ws here in
-          let names : All IsResolved (body_uses es around (resolved_body es around m rest)) =
-          subst (λ (z : List Declaration). All IsResolved (body_uses z around (resolved_body es around m rest))) same (All-right IsResolved (variables_uses here around ty rs) _ u) in (
-            locals_find W file may_call at_hole keep enter Automatic files n ty vs here around h well.0 (All-left IsResolved _ _ u) w at,
-            then_made (declare filling program called ty rs w) _ (declare_from filling steady program scopes called W file may_call at_hole keep Automatic files n ty vs here around h well.0 w at)
-                (λ o x keeps typed. body_finds rest m es around g well.1 names x (record { typed = typed; of_file = λ c. typed_moves (below n) file w x (files n) keeps (at.of_file c) })),
+          let g : AllWithin (below m) (es ++ around) = within_declared Automatic n m ty vs here around refl h in (
+            locals_find W file may_call at_hole keep enter Automatic files n ty vs here around h well.0 w at,
+            then_made (declare filling program called ty rs w) _ (declare_from filling steady program scopes there called W file may_call at_hole keep Automatic files n ty vs here around h well.0 w at)
+                (λ o x keeps typed. body_finds rest m es around g well.1 x (record { typed = typed; of_file = λ c. typed_moves (below n) file w x (files n) keeps (at.of_file c) })),
           )

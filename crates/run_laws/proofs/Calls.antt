@@ -1,5 +1,5 @@
 -- Calls, the objects of file scope, and whole programs keep states typed.
-use Rattle.std.proofs.Common.{◌≡◌, ℕ, zero, suc, ◌+◌, ℤ, pos, negsuc, List, [], ◌∷◌, ◌++◌, length, drop, Option, Some, None, Bool, true, false, refl, sym, subst, arith, codes, append-nil}
+use Rattle.std.proofs.Common.{◌≡◌, ◌≢◌, ℕ, zero, suc, ◌+◌, ℤ, pos, negsuc, List, [], ◌∷◌, ◌++◌, length, drop, Option, Some, None, Bool, true, false, refl, sym, subst, arith, codes, append-nil}
 use Rattle.std.specs.Prelude.{⊤, All, Contains}
 use Rattle.std.specs.Str.{bytes_eq}
 use Rattle.std.proofs.lemmas.List.Elements.{All-nil, All-cons}
@@ -20,7 +20,6 @@ use Rattle.c_types.specs.declared.scope.Storage.TheVariants.{Static, Automatic}
 use Rattle.c_types.specs.Programs.{param_declaration, params_declared, function_declaration}
 use Rattle.c_types.specs.Slots.{slot_in, numbered, numbered_param, numbered_params, resolved_variables, resolved_body, resolved_definition, resolved_function, resolved_outers}
 use Rattle.c_types.specs.Statements.{declared}
-use Rattle.c_types.specs.Uses.{definition_uses, IsResolved}
 use Rattle.c_meaning.specs.declared.argument.Argument.{Argument}
 use Rattle.c_meaning.specs.declared.argument.Argument.TheVariants.{Number, Array, Format, Place}
 use Rattle.c_meaning.specs.declared.stop.End.TheVariants.{Trapped, Exit, Wrong}
@@ -148,6 +147,11 @@ within_params : (n m : ℕ) (ps : List Param) (here around : List Declaration) �
 within_params n m [] here around e h = all_within_more (below n) (below m) (before_more Automatic n m (omega arith)) (here ++ around) h
 within_params n m (p ∷ ps) here around e h = within_params (suc n) m ps (param_declaration (numbered_param n p) ∷ here) around (omega arith) (within_param n p (here ++ around) h)
 
+-- the slots of parameters are set
+params_set : (n : ℕ) (ps : List Param) → All (λ (p : Param). p.slot ≢ Unset) (numbered_params n ps)
+params_set n [] = All-nil (λ (p : Param). p.slot ≢ Unset)
+params_set n (p ∷ ps) = All-cons (λ (p : Param). p.slot ≢ Unset) (numbered_param n p) (numbered_params (suc n) ps) (λ h. cc) (params_set (suc n) ps)
+
 no_array : (b : Bool) (n : ℕ) → b ≡ true → b ≡ false → n ≡ 1
 no_array b n h k = absurd (cc)
 
@@ -200,8 +204,7 @@ module _ (program : List Outer) (scopes : List Names) (file : List Declaration) 
     pub is : f ≡ resolved_function around written
     pub in_file : (w : World) → IsTypedBy file w → IsTypedBy around w
     pub at_file : AllWithin of_file around
-    pub well : WellDefinition program scopes ⊤ (params_declared (numbered_params 0 written.params) []) around (length written.params) written.body
-    pub names : All IsResolved (definition_uses (params_declared (numbered_params 0 written.params) []) around (resolved_definition (params_declared (numbered_params 0 written.params) []) around (length written.params) written.body))
+    pub well : WellDefinition program scopes ⊤ ⊤ (params_declared (numbered_params 0 written.params) []) around (length written.params) written.body
 
   abbrev pub IsKnownIfAny : Option Function → Type 0
   IsKnownIfAny None = ⊤
@@ -222,7 +225,7 @@ module _ (filling : Filling) (steady : IsSteady filling) (program : List Outer) 
 
   module _ (called : Called) (keep : CallsKeep W file ⊤ program called) where
     body_from : (around : List Declaration) (f : Function) (body : Option Body) (gs : List Argument) (w : World) → AllWithin of_file around → IsTypedBy around w → IsTypedBy file w → Suits (numbered_params 0 f.params) gs w
-        → WellDefinition program scopes ⊤ (params_declared (numbered_params 0 f.params) []) around (length f.params) body
+        → WellDefinition program scopes ⊤ ⊤ (params_declared (numbered_params 0 f.params) []) around (length f.params) body
         → From W every_slot Any w (enter_body (run_body filling program called) (resolved_function around f) (resolved_definition (params_declared (numbered_params 0 f.params) []) around (length f.params) body) gs w)
     body_from around f None gs w outer typed all suits well = from_over _ w
     body_from around f (Some body) gs w outer typed all suits well =
@@ -230,7 +233,7 @@ module _ (filling : Filling) (steady : IsSteady filling) (program : List Outer) 
         let here = params_declared ps [] in
         let n = length f.params in
         let within : AllWithin (below n) (here ++ around) = within_params 0 n f.params [] around (omega arith) (all_within_more of_file (below 0) (of_file_below 0) around outer) in
-        let sound = body_sound filling steady program scopes called W file ⊤ at_hole keep files body n here around within well in
+        let sound = body_sound filling steady program scopes ⊤ called W file ⊤ at_hole keep files body n here around within well in
         from_bind (unit w) _ ((units {k = nowhere W}).by w (at_nowhere W w))
         (λ u x keeps any.
         let y : World = record x { frame = [] } in
@@ -254,31 +257,32 @@ module _ (filling : Filling) (steady : IsSteady filling) (program : List Outer) 
 
     module _ (inside : Inside) (enter : CallsFind file ⊤ program inside) where
       body_found : (around : List Declaration) (f : Function) (body : Option Body) (gs : List Argument) (w : World) → AllWithin of_file around → IsTypedBy around w → IsTypedBy file w → Suits (numbered_params 0 f.params) gs w
-          → WellDefinition program scopes ⊤ (params_declared (numbered_params 0 f.params) []) around (length f.params) body
-          → All IsResolved (definition_uses (params_declared (numbered_params 0 f.params) []) around (resolved_definition (params_declared (numbered_params 0 f.params) []) around (length f.params) body))
+          → WellDefinition program scopes ⊤ ⊤ (params_declared (numbered_params 0 f.params) []) around (length f.params) body
           → InDefinition (FindsBody filling program called inside) (resolved_function around f) (resolved_definition (params_declared (numbered_params 0 f.params) []) around (length f.params) body) gs w
-      body_found around f None gs w outer typed all suits well names = tt
-      body_found around f (Some body) gs w outer typed all suits well names =
+      body_found around f None gs w outer typed all suits well = tt
+      body_found around f (Some body) gs w outer typed all suits well =
           let ps = numbered_params 0 f.params in
           let here = params_declared ps [] in
           let n = length f.params in
-          let within : AllWithin (below n) (here ++ around) = within_params 0 n f.params [] around (omega arith) (all_within_more of_file (below 0) (of_file_below 0) around outer) in
-          then_holds (unit w) _ ((units {k = nowhere W}).by w (at_nowhere W w))
-          (λ u x keeps.
-          let y : World = record x { frame = [] } in
-          let emptied : Keeps of_file x y = empty_frame x in
-          let typed_there : IsTypedBy around y = typed_moves of_file around x y outer emptied (typed_moves every_slot around w x (all_within_more of_file every_slot (λ slot s. tt) around outer) keeps typed) in
-          let file_there : IsTypedBy file y = typed_moves of_file file x y at_file emptied (typed_moves every_slot file w x (all_within_more of_file every_slot (λ slot s. tt) file at_file) keeps all) in
-          let suits_there = suits_moves of_file x y ps gs emptied (suits_moves every_slot w x ps gs keeps suits) in
-          then_made {W = W} (bind_params ps gs y) _ (params_from 0 f.params gs [] around y (all_within_more of_file (below 0) (of_file_below 0) around outer) typed_there suits_there)
-          (λ o z more good. body_finds filling steady program scopes called inside W file ⊤ at_hole keep enter files body n here around within well names z
-          (record { typed = good; of_file = λ c. typed_moves of_file file y z at_file (keeps_fewer (below 0) of_file y z (of_file_below 0) more) file_there })))
+          let within : AllWithin (below n) (here ++ around) = within_params 0 n f.params [] around (omega arith) (all_within_more of_file (below 0) (of_file_below 0) around outer) in (
+            params_set 0 f.params,
+            then_holds (unit w) _ ((units {k = nowhere W}).by w (at_nowhere W w))
+                (λ u x keeps.
+                let y : World = record x { frame = [] } in
+                let emptied : Keeps of_file x y = empty_frame x in
+                let typed_there : IsTypedBy around y = typed_moves of_file around x y outer emptied (typed_moves every_slot around w x (all_within_more of_file every_slot (λ slot s. tt) around outer) keeps typed) in
+                let file_there : IsTypedBy file y = typed_moves of_file file x y at_file emptied (typed_moves every_slot file w x (all_within_more of_file every_slot (λ slot s. tt) file at_file) keeps all) in
+                let suits_there = suits_moves of_file x y ps gs emptied (suits_moves every_slot w x ps gs keeps suits) in
+                then_made {W = W} (bind_params ps gs y) _ (params_from 0 f.params gs [] around y (all_within_more of_file (below 0) (of_file_below 0) around outer) typed_there suits_there)
+                (λ o z more good. body_finds filling steady program scopes ⊤ tt called inside W file ⊤ at_hole keep enter files body n here around within well z
+                (record { typed = good; of_file = λ c. typed_moves of_file file y z at_file (keeps_fewer (below 0) of_file y z (of_file_below 0) more) file_there }))),
+          )
 
       call_found : (o : Option Function) (gs : List Argument) (w : World) → IsKnownIfAny program scopes file o → IsTypedBy file w → Suits (params_of o) gs w → InFunction (FindsBody filling program called inside) o gs w
       call_found None gs w is all suits = tt
       call_found (Some f) gs w is all suits =
           subst (λ (g : Function). InFunction (FindsBody filling program called inside) (Some g) gs w) (sym is.is)
-          (body_found is.around is.written is.written.body gs w is.at_file (is.in_file w all) all (subst (λ (g : Function). Suits g.params gs w) is.is suits) is.well is.names)
+          (body_found is.around is.written is.written.body gs w is.at_file (is.in_file w all) all (subst (λ (g : Function). Suits g.params gs w) is.is suits) is.well)
 
   user_from : (n : ℕ) (o : Option Function) (gs : List Argument) (w : World) → IsKnownIfAny program scopes file o → IsTypedBy file w → Suits (params_of o) gs w → From W every_slot Any w (user_call filling program n o gs w)
   unfolding user_call
@@ -318,7 +322,7 @@ scope_at_end file here n (outer_func f ∷ rest) = scope_at_end file (function_d
 abbrev pub WellGlobals : List Outer → List Names → List Outer → List Declaration → ℕ → List Outer → Type 0
 WellGlobals program scopes file here n [] = ⊤
 WellGlobals program scopes file here n (outer_vars ty vs ∷ rest) =
-    WellVariables program scopes ⊥ Static here [] n ty vs × WellGlobals program scopes file (declared ty (numbered (slot_in Static) n vs) here) (n + length vs) rest
+    WellVariables program scopes ⊤ ⊥ Static here [] n ty vs × WellGlobals program scopes file (declared ty (numbered (slot_in Static) n vs) here) (n + length vs) rest
 WellGlobals program scopes file here n (outer_func f ∷ rest) = WellGlobals program scopes file (function_declaration file f ∷ here) n rest
 
 -- no slot
@@ -334,13 +338,13 @@ within_globals n ty vs here h =
     (within_declared Static n (n + length vs) ty vs here [] refl (subst (λ (ds : List Declaration). AllWithin (file_below n) ds) (sym (append-nil here)) h))
 
 module _ (filling : Filling) (steady : IsSteady filling) (program : List Outer) (scopes : List Names) (W : World → Type 0) (at_hole : (ds : Names) → Contains scopes ds → (x : World) → IsTypedBy ds x → W x) (called : Called) (file : List Outer) where
-  pub variables_from : (n : ℕ) (ty : Ty) (vs : List Variable) (here : List Declaration) → AllWithin (file_below n) here → WellVariables program scopes ⊥ Static here [] n ty vs → (w : World) → IsTypedBy here w
+  pub variables_from : (n : ℕ) (ty : Ty) (vs : List Variable) (here : List Declaration) → AllWithin (file_below n) here → WellVariables program scopes ⊤ ⊥ Static here [] n ty vs → (w : World) → IsTypedBy here w
       → From W no_slot (λ u x. IsTypedBy (declared ty (numbered (slot_in Static) n vs) here) x) w (declare_globals filling program called ty (resolved_variables here [] ty (numbered (slot_in Static) n vs)) w)
   variables_from n ty vs here h well w typed =
       let ends = declared ty (numbered (slot_in Static) n vs) here in
       from_other no_slot (λ u x. IsTypedBy ends x) w (declare_globals filling program called ty (resolved_variables here [] ty (numbered (slot_in Static) n vs)) w)
       (λ u x k q. (none_kept (file_below n) w x k, subst (λ (ds : List Declaration). IsTypedBy ds x) (append-nil ends) q))
-      (globals_from filling steady program scopes called W [] ⊥ at_hole (λ word gs x c t s. absurd c) Static (λ m. no_declaration (file_below m)) n ty vs here []
+      (globals_from filling steady program scopes ⊤ called W [] ⊥ at_hole (λ word gs x c t s. absurd c) Static (λ m. no_declaration (file_below m)) n ty vs here []
       (subst (λ (ds : List Declaration). AllWithin (file_below n) ds) (sym (append-nil here)) h) well w
       (record { typed = subst (λ (ds : List Declaration). IsTypedBy ds w) (sym (append-nil here)) typed; of_file = λ c. absurd c }))
 

@@ -1,18 +1,30 @@
 -- What the laws say of programs with a hole: one that they hold of, and one that isn't resolved, of which they fail.
-use Rattle.std.proofs.Common.{◌≡◌, pos, List, [], ◌∷◌, length, slice_get, codes, false, Some, None, refl, ap, ◌∙◌, arith}
-use Rattle.std.proofs.lemmas.List.Elements.{All-nil, All-from_recursion, All-contains}
+-- And what they say of a call with an array.
+use Rattle.std.proofs.Common.{◌≡◌, ℕ, ℤ, pos, List, [], ◌∷◌, length, slice_get, codes, true, false, Some, None, refl, sym, ap, ◌∙◌, subst, arith}
+use Rattle.std.proofs.lemmas.List.Elements.{All-from_recursion, All-contains}
+use Rattle.std.proofs.lemmas.Slice.Eq.{bytes_eq-Decides}
+use Rattle.std.specs.Prelude.{All}
+use Rattle.std.specs.Str.{bytes_eq}
 use Rattle.c_tree.specs.declared.stmt.Shape.TheVariants.{Scalar, Array}
 use Rattle.c_tree.specs.declared.stmt.Slot.TheVariants.{Local}
 use Rattle.c_tree.specs.declared.stmt.Ty.TheVariants.{Int}
-use Rattle.c_tree.specs.Tree.{hole, bare_start, Variable, act, next, vars, done, Outer, outer_func, no_span}
+use Rattle.c_tree.specs.Tree.{Tree, constant, name, index, call, hole, value, no_args, bare_start, list_start, Variable, act, give, next, vars, done, Body, Function, Outer, outer_func, no_span}
+use Rattle.c_types.specs.Evidence.{IsChecked}
 use Rattle.c_types.specs.Library.{library}
 use Rattle.c_types.specs.Programs.{function_declaration}
+use Rattle.c_types.specs.Scopes.{is_declared}
 use Rattle.c_types.specs.Statements.{variable_declaration}
+use Rattle.c_meaning.specs.declared.argument.Argument.{Argument}
+use Rattle.c_meaning.specs.declared.argument.Argument.TheVariants.{Number, Array as Given}
 use Rattle.c_meaning.specs.World.{Object, World, waiting}
-use Rattle.c_meaning.specs.Meaning.{Filling, user_call, run_program}
-use Rattle.run_laws.specs.Typed.{HasObject, IsTypedBy}
+use Rattle.c_meaning.specs.Meaning.{Filling, user_call, no_hole, run_program}
+use Rattle.run_laws.specs.Typed.{HasObject, IsTypedBy, IsSteady}
 use Rattle.run_laws.specs.Holes.{Names, holes}
-use Rattle.run_laws.specs.Laws.{IsSound, IsTypedByOne}
+use Rattle.run_laws.specs.Places.{file_scope, IsThere}
+use Rattle.run_laws.specs.Laws.{IsTypedByOne}
+use Rattle.run_laws.specs.Reads.{TakesAll, IsDefinedFor, IsCallable}
+use Rattle.run_laws.specs.Bodies.{FindsCall}
+use Rattle.run_laws.proofs.Programs.{runs-find}
 
 -- holes at which every run stops
 abbrev stops_there : Filling
@@ -32,8 +44,8 @@ main_with v = outer_func (record { word = codes "main"; span = no_span; ret = So
 abbrev whole : List Outer
 whole = outer_func (record { word = codes "main"; span = no_span; ret = Some Int; params = []; body = Some (vars Int (one ∷ []) (next (act hole no_span) done)) }) ∷ []
 
-whole_is_sound : IsSound whole
-whole_is_sound = record { faultless = λ end. refl; is_resolved = refl; names = All-nil _ }
+whole_is_checked : IsChecked whole
+whole_is_checked = record { faultless = λ end. refl; is_resolved = refl }
 
 -- two variables in one slot
 abbrev broken : List Outer
@@ -82,3 +94,108 @@ scope_fails h = no_object (h 1 (variable_declaration Int one) (omega arith))
 -- so the state at its hole isn't typed by the hole's scope
 not_typed : IsTypedByOne (holes broken) at_last → ⊥
 not_typed h = All-contains (λ (ds : Names). IsTypedBy ds at_last → ⊥) (holes broken) h.scope (All-from_recursion (λ (ds : Names). IsTypedBy ds at_last → ⊥) (holes broken) (scope_fails, tt)) h.is_scope h.typed
+
+-- ---- calls
+
+-- `return e;`
+abbrev gives : Tree → Body → Body
+gives e rest = next (give (Some e) no_span) rest
+
+abbrev number : ℤ → Tree
+number n = constant n [] no_span
+
+-- `int first(int a[]) { return a[0]; }`
+abbrev first : Function
+first = record {
+  word = codes "first";
+  span = no_span;
+  ret = Some Int;
+  params = record { word = codes "a"; slot = Local 0; span = no_span; ty = Int; array = true } ∷ [];
+  body = Some (gives (index (codes "a") (Local 0) (number (pos 0)) no_span) done);
+}
+
+-- `int b[2] = {7, 8};`
+abbrev pair : Variable
+pair = record { word = codes "b"; slot = Local 0; span = no_span; shape = Array (Some (pos 2)); start = list_start (number (pos 7) ∷ (number (pos 8) ∷ [])) }
+
+-- a function with that array as its argument
+abbrev calling : List Outer
+calling = outer_func first ∷ (outer_func (record {
+  word = codes "main";
+  span = no_span;
+  ret = Some Int;
+  params = [];
+  body = Some (vars Int (pair ∷ []) (gives (call (codes "first") (value (name (codes "b") (Local 0) no_span) no_args) no_span) done));
+}) ∷ [])
+
+calling_is_checked : IsChecked calling
+calling_is_checked = record { faultless = λ end. refl; is_resolved = refl }
+
+-- what is declared at its file scope is there
+calling_is_there : All (IsThere calling) (file_scope calling)
+calling_is_there =
+    All-from_recursion (IsThere calling) (file_scope calling) (
+      (refl, (λ d. refl), (λ f found. ap (λ (z : Function). z.ret) (sym (some_same found)))),
+      (
+        (refl, (λ d. refl), (λ f found. ap (λ (z : Function). z.ret) (sym (some_same found)))),
+        (refl, (refl, (refl, (refl, (refl, (refl, tt)))))),
+      ),
+    )
+
+-- the state at the call
+abbrev at_call : World
+at_call = record { objects = record { ty = Int; cells = Some (pos 7) ∷ (Some (pos 8) ∷ []) } ∷ []; globals = []; frame = Some 0 ∷ []; io = record { input = []; expected = [] }; units = 7; tape = [] }
+
+-- a program's own run is one that the laws speak of
+own_is_steady : IsSteady no_hole
+own_is_steady = record { by = λ old w. tt }
+
+-- the law says of its run that the function takes the array
+takes_array : IsCallable calling at_call (codes "first") (Given 0 ∷ [])
+unfolding user_call FindsCall
+takes_array = (runs-find calling calling_is_checked no_hole own_is_steady at_first).1.2.1.1.0.1.0
+
+-- what is called by another word than those of the library is defined
+own_call : (program : List Outer) (w : World) (word : List ℕ) (gs : List Argument) → IsCallable program w word gs → is_declared library word ≡ false → IsDefinedFor program word gs w
+own_call program w _ _ IsCallable.getchar h = absurd (cc)
+own_call program w _ _ (IsCallable.putchar v) h = absurd (cc)
+own_call program w _ _ (IsCallable.abs v) h = absurd (cc)
+own_call program w _ _ (IsCallable.exit v) h = absurd (cc)
+own_call program w _ _ (IsCallable.printf f vs is) h = absurd (cc)
+own_call program w _ _ (IsCallable.scanf slot i array has) h = absurd (cc)
+own_call program w _ _ (IsCallable.own word gs free is) h = is
+
+-- it takes no number in the array's place, and not nothing
+takes_no_number : IsCallable calling at_call (codes "first") (Number (pos 7) ∷ []) → ⊥
+takes_no_number h =
+    let own = own_call calling at_call (codes "first") (Number (pos 7) ∷ []) h refl in
+    let same : own.function ≡ first = some_same (sym own.is) in
+    let takes : TakesAll first.params (Number (pos 7) ∷ []) at_call = subst (λ (f : Function). TakesAll f.params (Number (pos 7) ∷ []) at_call) same own.takes in
+    let wrong : true ≡ false = takes.0 in
+    absurd (cc)
+
+takes_not_nothing : IsCallable calling at_call (codes "first") [] → ⊥
+takes_not_nothing h =
+    let own = own_call calling at_call (codes "first") [] h refl in
+    let same : own.function ≡ first = some_same (sym own.is) in
+    subst (λ (f : Function). TakesAll f.params [] at_call) same own.takes
+
+-- nothing is called by a word that is nowhere defined
+not_defined : (gs : List Argument) → IsCallable calling at_call (codes "second") gs → ⊥
+not_defined gs h =
+    let own = own_call calling at_call (codes "second") gs h refl in
+    let found : None ≡ Some own.function = own.is in
+    absurd (cc)
+
+-- `putchar` takes no other than one argument
+one_for_putchar : (program : List Outer) (w : World) (word : List ℕ) (gs : List Argument) → IsCallable program w word gs → bytes_eq word (codes "putchar") ≡ true → length gs ≡ 1
+one_for_putchar program w _ _ IsCallable.getchar h = absurd (cc)
+one_for_putchar program w _ _ (IsCallable.putchar v) h = refl
+one_for_putchar program w _ _ (IsCallable.abs v) h = absurd (cc)
+one_for_putchar program w _ _ (IsCallable.exit v) h = absurd (cc)
+one_for_putchar program w _ _ (IsCallable.printf f vs is) h = absurd (cc)
+one_for_putchar program w _ _ (IsCallable.scanf slot i array has) h = absurd (cc)
+one_for_putchar program w _ _ (IsCallable.own word gs free is) h =
+    let same : codes "putchar" ≡ word = sym ((bytes_eq-Decides word (codes "putchar")).0 h) in
+    let declared : true ≡ false = subst (λ (z : List ℕ). is_declared library z ≡ false) (sym same) free in
+    absurd (cc)

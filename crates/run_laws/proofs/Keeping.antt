@@ -13,7 +13,7 @@ use Rattle.c_types.specs.declared.scope.Entity.TheVariants.{Variable, Function, 
 use Rattle.c_meaning.specs.declared.stop.End.{End}
 use Rattle.c_meaning.specs.World.{Object, World, Out, going, over, waiting, Run, pure, lift, and_then, ◌>>=◌}
 use Rattle.c_meaning.specs.Steps.{unit, unit_of, named, number_of, object_at, cells_of, cell_at, found, load, with_cell, with_object_cell, store_object, store, live_cells, cell_limit, uninitialised, make, bind, attach, known, object_of, cut, scoped, swap, framed}
-use Rattle.run_laws.specs.Typed.{HasObject, EntityHasObject, IsTypedBy, Keeps, every_slot}
+use Rattle.run_laws.specs.Typed.{HasObject, HasCells, EntityHasObject, IsTypedBy, Keeps, every_slot}
 use Rattle.run_laws.specs.Places.{below, HasSlotIn}
 
 -- ---- lists
@@ -327,3 +327,14 @@ pub global_attached : {W : World → Type 0} (n number : ℕ) (w : World) (objec
     → From {A = Unit {0}} W (file_below n) (λ u x. HasObject x (Global n) ty array) w (attach (Global n) number w)
 global_attached n number w object ty array lives typed single =
     from_going tt _ (global_keeps n number w) (record { number = number; object = object; names = bind_same n number w.globals; lives = lives; typed = typed; single = single })
+
+-- and its object has as many cells
+pub local_cells : {W : World → Type 0} (n number count : ℕ) (w : World) (object : Object) → slice_get w.objects number ≡ Some object → length object.cells ≡ count
+    → From {A = Unit {0}} W (below n) (λ u x. HasCells x (Local n) count) w (attach (Local n) number w)
+local_cells n number count w object lives many =
+    from_going tt _ (local_keeps n number w) (record { number = number; object = object; names = bind_same n number w.frame; lives = lives; many = many })
+
+pub global_cells : {W : World → Type 0} (n number count : ℕ) (w : World) (object : Object) → slice_get w.objects number ≡ Some object → length object.cells ≡ count
+    → From {A = Unit {0}} W (file_below n) (λ u x. HasCells x (Global n) count) w (attach (Global n) number w)
+global_cells n number count w object lives many =
+    from_going tt _ (global_keeps n number w) (record { number = number; object = object; names = bind_same n number w.globals; lives = lives; many = many })

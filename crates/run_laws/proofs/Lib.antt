@@ -2,6 +2,7 @@ pub mod Well
 pub mod Keeping
 pub mod Sound
 pub mod Runs
+pub mod Called
 pub mod Faultless
 pub mod Finding
 pub mod Bodies

@@ -25,8 +25,9 @@ use Rattle.c_meaning.specs.Steps.{unit, object_of, number_of}
 use Rattle.c_meaning.specs.Meaning.{Filling, Called, decided, bump_op, slot_of, definition, params_of, takes_array, rest_of, passed, cell_count, make_variable, eval, index_of, evals, perform, store_list, declare_object, declare_local, declare, begin, test_of, step_of, exec, run_body, declare_global, declare_globals}
 use Rattle.run_laws.specs.Typed.{HasObject, EntityHasObject, IsTypedBy, Keeps, every_slot, KeepsObjects, IsSteady}
 use Rattle.run_laws.specs.Holes.{Names}
-use Rattle.run_laws.proofs.Well.{first_ty, IsArrayName, IsLive, SuitsOne, Suits, Well, WellArgs, WellOption, WellList, WellInitial, WellVariables, WellFirst, WellCode, WellBody}
+use Rattle.run_laws.proofs.Well.{first_ty, IsArrayName, SuitsOne, Suits, ShapedOne, Shaped, Well, WellArgs, WellOption, WellList, WellInitial, WellVariables, WellFirst, WellCode, WellBody}
 use Rattle.run_laws.specs.Places.{below}
+use Rattle.run_laws.specs.Reads.{IsLive}
 use Rattle.run_laws.proofs.Keeping.{AllWithin, all_within_more, keeps_refl, keeps_fewer, typed_moves, Any, From, from_going, from_over, from_other, from_bind, object_of_keeps}
 use Rattle.run_laws.proofs.Sound.{Context, At, Sound, at_moves, bound, pures, stops, units, loads, stores, lifts, used_sound, some_sound, on_zero_sound, unless_sound, on_next_sound, test_turn_sound, body_turn_sound, loop_sound, jump_sound, scope_sound, zeros_sound, before, before_more, within_cons, within_declared, variable_from, one_cell}
 
@@ -55,6 +56,39 @@ pub suits_moves : (S : Slot → Type 0) (w x : World) (ps : List Param) (gs : Li
 suits_moves S w x ps [] k h = tt
 suits_moves S w x ps (a ∷ gs) k h = (suits_one_moves S w x (takes_array ps) (first_ty ps) a k h.0, suits_moves S w x (rest_of ps) gs k h.1)
 
+shaped_one_moves : (S : Slot → Type 0) (w x : World) (array : Bool) (ty : Ty) (a : Argument) → Keeps S w x → ShapedOne array ty a w → ShapedOne array ty a x
+shaped_one_moves S w x true ty (Number v) k h = h
+shaped_one_moves S w x true ty (Array n) k h = live_moves S w x n ty k h
+shaped_one_moves S w x true ty (Format f) k h = h
+shaped_one_moves S w x true ty (Place slot i) k h = h
+shaped_one_moves S w x false ty (Number v) k h = h
+shaped_one_moves S w x false ty (Array n) k h = h
+shaped_one_moves S w x false ty (Format f) k h = h
+shaped_one_moves S w x false ty (Place slot i) k h = h
+
+one_suits : (array : Bool) (ty : Ty) (a : Argument) (w : World) → ShapedOne array ty a w → SuitsOne array ty a w
+one_suits true ty (Number v) w h = tt
+one_suits true ty (Array n) w h = (refl, h)
+one_suits true ty (Format f) w h = tt
+one_suits true ty (Place slot i) w h = tt
+one_suits false ty (Number v) w h = tt
+one_suits false ty (Array n) w h = absurd h
+one_suits false ty (Format f) w h = tt
+one_suits false ty (Place slot i) w h = tt
+
+-- arguments suit the parameters for which they are given
+pub shaped_suit : (ps : List Param) (args : Args) (gs : List Argument) (w : World) → Shaped ps args gs w → Suits ps gs w
+shaped_suit ps no_args [] w h = tt
+shaped_suit ps no_args (g ∷ gs) w h = absurd h
+shaped_suit ps (value e rest) [] w h = tt
+shaped_suit ps (value e rest) (g ∷ gs) w h = (one_suits (takes_array ps) (first_ty ps) g w h.0, shaped_suit (rest_of ps) rest gs w h.1)
+shaped_suit ps (format f s rest) [] w h = tt
+shaped_suit ps (format f s rest) (g ∷ gs) w h =
+    (subst (λ (a : Argument). SuitsOne (takes_array ps) (first_ty ps) a w) (sym h.0) tt, shaped_suit (rest_of ps) rest gs w h.1)
+shaped_suit ps (address e rest) [] w h = tt
+shaped_suit ps (address e rest) (g ∷ gs) w h =
+    (subst (λ (a : Argument). SuitsOne (takes_array ps) (first_ty ps) a w) (sym h.0.1) tt, shaped_suit (rest_of ps) rest gs w h.1)
+
 -- the object of an array is live
 array_live : (ds : List Declaration) (w : World) (ty : Ty) (e : Tree) (n : ℕ) → IsTypedBy ds w → IsArrayName ds ty e → number_of (slot_of (resolved_tree ds e)) w ≡ Some n → IsLive w n ty
 array_live ds w ty e n h a is =
@@ -64,10 +98,10 @@ array_live ds w ty e n h a is =
     record { object = has.object; lives = ap (λ k. slice_get w.objects k) (sym number) ∙ has.lives; typed = has.typed }
 
 pub passed_from : (k : Context) (array : Bool) (ty : Ty) (e : Tree) (m : Run ℤ) (w : World) → At k w → (array ≡ true → IsArrayName k.scope ty e) → (array ≡ false → Sound k m)
-    → From k.waits k.slots (λ a x. SuitsOne array ty a x) w (passed array (slot_of (resolved_tree k.scope e)) m w)
+    → From k.waits k.slots (λ a x. ShapedOne array ty a x) w (passed array (slot_of (resolved_tree k.scope e)) m w)
 passed_from k true ty e m w at f g =
     from_bind (object_of (slot_of (resolved_tree k.scope e)) w) (λ n. pure (Array n)) (object_of_keeps k.slots (slot_of (resolved_tree k.scope e)) w)
-    (λ n x keeps is. from_going (Array n) x (keeps_refl k.slots x) (refl, subst (λ (z : World). IsLive z n ty) (sym is.1) (array_live k.scope w ty e n at.typed (f refl) is.0)))
+    (λ n x keeps is. from_going (Array n) x (keeps_refl k.slots x) (subst (λ (z : World). IsLive z n ty) (sym is.1) (array_live k.scope w ty e n at.typed (f refl) is.0)))
 passed_from k false ty e m w at f g =
     from_bind (m w) (λ v. pure (Number v)) ((g refl).by w at) (λ v x keeps any. from_going (Number v) x (keeps_refl k.slots x) tt)
 
@@ -88,41 +122,42 @@ abbrev pub CallsKeep : (World → Type 0) → List Declaration → Type 0 → Li
 CallsKeep W file may_call program called =
     (word : List ℕ) (gs : List Argument) (w : World) → may_call → IsTypedBy file w → Suits (params_of (definition word program)) gs w → From W every_slot Any w (called word gs w)
 
-module _ (filling : Filling) (steady : IsSteady filling) (program : List Outer) (scopes : List Names) (called : Called) where
+module _ (filling : Filling) (steady : IsSteady filling) (program : List Outer) (scopes : List Names) (there : Type 0) (called : Called) where
   module _ (k : Context) (at_hole : (ds : Names) → Contains scopes ds → (x : World) → IsTypedBy ds x → k.waits x) (keep : CallsKeep k.waits k.file k.may_call program called) where
     hole_sound : (old : Option ℤ) → Contains scopes k.scope → Sound k (filling old)
     hole_sound old h = record { by = λ w at. hole_out k w (filling old w) (at_hole k.scope h) at (steady.by old w) }
 
     mutual
-      pub eval_sound : (t : Tree) → Well program scopes k.may_call k.scope t → Sound k (eval filling program called (resolved_tree k.scope t))
-      eval_sound (constant n word s) h = pures (Some n)
-      eval_sound (name word slot s) h = some_sound (loads _ (pos 0))
-      eval_sound (index word slot v s) h = bound (used_sound (eval_sound v h)) (λ i. some_sound (loads _ i))
-      eval_sound (call word args s) h = record {
+      pub eval_sound : (wanted : Bool) (t : Tree) → Well program scopes there k.may_call k.scope wanted t → Sound k (eval filling program called (resolved_tree k.scope t))
+      eval_sound wanted (constant n word s) h = pures (Some n)
+      eval_sound wanted (name word slot s) h = some_sound (loads _ (pos 0))
+      eval_sound wanted (index word slot v s) h = bound (used_sound (eval_sound true v h.1)) (λ i. some_sound (loads _ i))
+      eval_sound wanted (call word args s) h = record {
         by = λ w at.
             from_bind (evals filling program called (params_of (definition word program)) (resolved_args k.scope args) w) (λ gs. called word gs)
             (evals_from args (params_of (definition word program)) h.1 w at)
-            (λ gs x keeps suits. fewer_slots every_slot k.slots x (called word gs x) (λ slot s. tt) (keep word gs x h.0 ((at_moves k w x keeps at).of_file h.0) suits));
+            (λ gs x keeps shaped. fewer_slots every_slot k.slots x (called word gs x) (λ slot s. tt)
+            (keep word gs x h.0 ((at_moves k w x keeps at).of_file h.0) (shaped_suit (params_of (definition word program)) (resolved_args k.scope args) gs x shaped)));
       }
-      eval_sound (unary o v s) h = bound (used_sound (eval_sound v h)) (λ a. some_sound (lifts (prefix Int o a)))
-      eval_sound (cast ty v s) h = bound (used_sound (eval_sound v h)) (λ a. pures (Some (convert ty a)))
-      eval_sound (binary o l r s) h =
-          bound (used_sound (eval_sound l h.0)) (λ a. some_sound (unless_sound (decided o a) _ (bound (used_sound (eval_sound r h.1)) (λ b. lifts (op Int o a b)))))
-      eval_sound (choice t a b s) h =
-          bound (used_sound (eval_sound t h.0)) (λ v. some_sound (on_zero_sound v _ _ (used_sound (eval_sound b h.1.1)) (used_sound (eval_sound a h.1.0))))
-      eval_sound (assign None place v s) h = bound (index_sound place h.1.0) (λ i. bound (used_sound (eval_sound v h.1.1)) (λ a. some_sound (stores _ i a)))
-      eval_sound (assign (Some o) place v s) h =
-          bound (index_sound place h.1.0) (λ i. bound (used_sound (eval_sound v h.1.1)) (λ a. bound (loads _ i) (λ old. bound (lifts (op Int o old a)) (λ new. some_sound (stores _ i new)))))
-      eval_sound (bump pre up place s) h =
+      eval_sound wanted (unary o v s) h = bound (used_sound (eval_sound true v h)) (λ a. some_sound (lifts (prefix Int o a)))
+      eval_sound wanted (cast ty v s) h = bound (used_sound (eval_sound true v h)) (λ a. pures (Some (convert ty a)))
+      eval_sound wanted (binary o l r s) h =
+          bound (used_sound (eval_sound true l h.0)) (λ a. some_sound (unless_sound (decided o a) _ (bound (used_sound (eval_sound true r h.1)) (λ b. lifts (op Int o a b)))))
+      eval_sound wanted (choice t a b s) h =
+          bound (used_sound (eval_sound true t h.0)) (λ v. some_sound (on_zero_sound v _ _ (used_sound (eval_sound true b h.1.1)) (used_sound (eval_sound true a h.1.0))))
+      eval_sound wanted (assign None place v s) h = bound (index_sound place h.1.0) (λ i. bound (used_sound (eval_sound true v h.1.1)) (λ a. some_sound (stores _ i a)))
+      eval_sound wanted (assign (Some o) place v s) h =
+          bound (index_sound place h.1.0) (λ i. bound (used_sound (eval_sound true v h.1.1)) (λ a. bound (loads _ i) (λ old. bound (lifts (op Int o old a)) (λ new. some_sound (stores _ i new)))))
+      eval_sound wanted (bump pre up place s) h =
           bound (index_sound place h.1) (λ i. bound (loads _ i) (λ old. bound (lifts (op Int (bump_op up) old (pos 1))) (λ new. bound (stores _ i new) (λ u. pures (Some (cond pre u old))))))
-      eval_sound (comma l r s) h = bound (eval_sound l h.0) (λ o. some_sound (used_sound (eval_sound r h.1)))
-      eval_sound hole h = some_sound (hole_sound None h)
-      eval_sound (hole_after v) h = bound (used_sound (eval_sound v h.0)) (λ a. some_sound (hole_sound (Some a) h.1))
+      eval_sound wanted (comma l r s) h = bound (eval_sound false l h.0) (λ o. some_sound (used_sound (eval_sound true r h.1)))
+      eval_sound wanted hole h = some_sound (hole_sound None h)
+      eval_sound wanted (hole_after v) h = bound (used_sound (eval_sound true v h.0)) (λ a. some_sound (hole_sound (Some a) h.1))
 
-      pub index_sound : (t : Tree) → Well program scopes k.may_call k.scope t → Sound k (index_of filling program called (resolved_tree k.scope t))
+      pub index_sound : (t : Tree) → Well program scopes there k.may_call k.scope true t → Sound k (index_of filling program called (resolved_tree k.scope t))
       index_sound (constant n word s) h = stops Trapped
       index_sound (name word slot s) h = pures (pos 0)
-      index_sound (index word slot v s) h = used_sound (eval_sound v h)
+      index_sound (index word slot v s) h = used_sound (eval_sound true v h.1)
       index_sound (call word args s) h = stops Trapped
       index_sound (unary o v s) h = stops Trapped
       index_sound (cast ty v s) h = stops Trapped
@@ -134,42 +169,42 @@ module _ (filling : Filling) (steady : IsSteady filling) (program : List Outer) 
       index_sound hole h = stops Trapped
       index_sound (hole_after v) h = stops Trapped
 
-      pub evals_from : (args : Args) (ps : List Param) → WellArgs program scopes k.may_call k.scope ps args → (w : World) → At k w
-          → From k.waits k.slots (λ gs x. Suits ps gs x) w (evals filling program called ps (resolved_args k.scope args) w)
+      pub evals_from : (args : Args) (ps : List Param) → WellArgs program scopes there k.may_call k.scope ps args → (w : World) → At k w
+          → From k.waits k.slots (λ gs x. Shaped ps (resolved_args k.scope args) gs x) w (evals filling program called ps (resolved_args k.scope args) w)
       evals_from no_args ps h w at = from_going [] w (keeps_refl k.slots w) tt
       evals_from (value v rest) ps h w at =
           from_bind (passed (takes_array ps) (slot_of (resolved_tree k.scope v)) (used (eval filling program called (resolved_tree k.scope v))) w) _
-          (passed_from k (takes_array ps) (first_ty ps) v _ w at h.0 (λ e. used_sound (eval_sound v (h.1.0 e))))
+          (passed_from k (takes_array ps) (first_ty ps) v _ w at h.0 (λ e. used_sound (eval_sound true v (h.1.0 e))))
           (λ a x keeps suits.
           from_bind (evals filling program called (rest_of ps) (resolved_args k.scope rest) x) (λ gs. pure (a ∷ gs))
           (evals_from rest (rest_of ps) h.1.1 x (at_moves k w x keeps at))
-          (λ gs y more all. from_going (a ∷ gs) y (keeps_refl k.slots y) (suits_one_moves k.slots x y (takes_array ps) (first_ty ps) a more suits, all)))
+          (λ gs y more all. from_going (a ∷ gs) y (keeps_refl k.slots y) (shaped_one_moves k.slots x y (takes_array ps) (first_ty ps) a more suits, all)))
       evals_from (format f s rest) ps h w at =
           from_bind (evals filling program called (rest_of ps) (resolved_args k.scope rest) w) (λ gs. pure (Format f ∷ gs))
           (evals_from rest (rest_of ps) h w at)
-          (λ gs y more all. from_going (Format f ∷ gs) y (keeps_refl k.slots y) (tt, all))
+          (λ gs y more all. from_going (Format f ∷ gs) y (keeps_refl k.slots y) (refl, all))
       evals_from (address v rest) ps h w at =
           from_bind (index_of filling program called (resolved_tree k.scope v) w) _
           ((index_sound v h.1.0).by w at)
           (λ i x keeps any.
           from_bind (evals filling program called (rest_of ps) (resolved_args k.scope rest) x) (λ gs. pure (Place (slot_of (resolved_tree k.scope v)) i ∷ gs))
           (evals_from rest (rest_of ps) h.1.1 x (at_moves k w x keeps at))
-          (λ gs y more all. from_going (Place (slot_of (resolved_tree k.scope v)) i ∷ gs) y (keeps_refl k.slots y) (tt, all)))
+          (λ gs y more all. from_going (Place (slot_of (resolved_tree k.scope v)) i ∷ gs) y (keeps_refl k.slots y) ((i, refl), all)))
 
-    pub perform_sound : (t : Tree) → Well program scopes k.may_call k.scope t → Sound k (perform filling program called (resolved_tree k.scope t))
-    perform_sound t h = bound (eval_sound t h) (λ o. pures tt)
+    pub perform_sound : (t : Tree) → Well program scopes there k.may_call k.scope false t → Sound k (perform filling program called (resolved_tree k.scope t))
+    perform_sound t h = bound (eval_sound false t h) (λ o. pures tt)
 
-    pub test_sound : (t : Option Tree) → WellOption program scopes k.may_call k.scope t → Sound k (test_of filling program called (resolved_option k.scope t))
+    pub test_sound : (t : Option Tree) → WellOption program scopes there k.may_call k.scope true t → Sound k (test_of filling program called (resolved_option k.scope t))
     test_sound None h = pures (pos 1)
-    test_sound (Some t) h = used_sound (eval_sound t h)
+    test_sound (Some t) h = used_sound (eval_sound true t h)
 
-    pub step_sound : (t : Option Tree) → WellOption program scopes k.may_call k.scope t → Sound k (step_of filling program called (resolved_option k.scope t))
+    pub step_sound : (t : Option Tree) → WellOption program scopes there k.may_call k.scope false t → Sound k (step_of filling program called (resolved_option k.scope t))
     step_sound None h = pures tt
     step_sound (Some t) h = perform_sound t h
 
-    list_sound : (slot : Slot) (at : ℕ) (es : List Tree) → WellList program scopes k.may_call k.scope es → Sound k (store_list filling program called slot at (map (resolved_tree k.scope) es))
+    list_sound : (slot : Slot) (at : ℕ) (es : List Tree) → WellList program scopes there k.may_call k.scope es → Sound k (store_list filling program called slot at (map (resolved_tree k.scope) es))
     list_sound slot at [] h = pures tt
-    list_sound slot at (e ∷ es) h = bound (used_sound (eval_sound e h.0)) (λ v. bound (stores slot (pos at) v) (λ u. list_sound slot (suc at) es h.1))
+    list_sound slot at (e ∷ es) h = bound (used_sound (eval_sound true e h.0)) (λ v. bound (stores slot (pos at) v) (λ u. list_sound slot (suc at) es h.1))
 
   -- ---- declarations
 
@@ -207,12 +242,12 @@ module _ (filling : Filling) (steady : IsSteady filling) (program : List Outer) 
           (λ u x keeps has. (keeps, has_typed w x at keeps has))
           (variable_from storage n ty (cell_count v.shape 0) (is_array v.shape) (one_cell v.shape 0) w)
 
-      pub object_from : (start : Initial) → WellInitial program scopes may_call (it ∷ ds) start → (w : World) → At (context n ds h) w
+      pub object_from : (start : Initial) → WellInitial program scopes there may_call (it ∷ ds) start → (w : World) → At (context n ds h) w
           → From W (before storage n) (λ u x. IsTypedBy (it ∷ ds) x) w (declare_object filling program called ty (slot_in storage n) v.shape (resolved_initial (it ∷ ds) start) w)
       object_from bare_start well w at = bare_from w at
       object_from (one_start e) well w at =
           made_from (cell_count v.shape 1) _ (one_cell v.shape 1)
-          (bound (used_sound (eval_sound inner at_hole keep e well)) (λ a. bound (stores (slot_in storage n) (pos 0) a) (λ u. pures tt))) w at
+          (bound (used_sound (eval_sound inner at_hole keep true e well)) (λ a. bound (stores (slot_in storage n) (pos 0) a) (λ u. pures tt))) w at
       object_from (list_start es) well w at =
           let count = length (map (resolved_tree (it ∷ ds)) es) in
           made_from (cell_count v.shape count) _ (one_cell v.shape count)
@@ -223,20 +258,20 @@ module _ (filling : Filling) (steady : IsSteady filling) (program : List Outer) 
         → (w : World) → At (context n ds h) w → From W (before storage n) Q w ((unit >> m) w)
     unit_from n ds h Q m f w at = from_bind (unit w) (λ u. m) (units.by w at) (λ u x keeps any. f x (at_moves (context n ds h) w x keeps at))
 
-    pub local_from : (n : ℕ) (ty : Ty) (v : Variable) (ds : List Declaration) (h : AllWithin (before storage n) ds) (start : Initial) → WellInitial program scopes may_call (it n ty v ds h ∷ ds) start → (w : World) → At (context n ds h) w
+    pub local_from : (n : ℕ) (ty : Ty) (v : Variable) (ds : List Declaration) (h : AllWithin (before storage n) ds) (start : Initial) → WellInitial program scopes there may_call (it n ty v ds h ∷ ds) start → (w : World) → At (context n ds h) w
         → From W (before storage n) (λ u x. IsTypedBy (it n ty v ds h ∷ ds) x) w (declare_local filling program called ty (slot_in storage n) v.shape (resolved_initial (it n ty v ds h ∷ ds) start) w)
     local_from n ty v ds h bare_start well w at = bare_from n ty v ds h w at
     local_from n ty v ds h (one_start e) well w at = unit_from n ds h (λ u x. IsTypedBy (it n ty v ds h ∷ ds) x) _ (object_from n ty v ds h (one_start e) well) w at
     local_from n ty v ds h (list_start es) well w at = unit_from n ds h (λ u x. IsTypedBy (it n ty v ds h ∷ ds) x) _ (object_from n ty v ds h (list_start es) well) w at
 
-    pub global_from : (n : ℕ) (ty : Ty) (v : Variable) (ds : List Declaration) (h : AllWithin (before storage n) ds) (start : Initial) → WellInitial program scopes may_call (it n ty v ds h ∷ ds) start → (w : World) → At (context n ds h) w
+    pub global_from : (n : ℕ) (ty : Ty) (v : Variable) (ds : List Declaration) (h : AllWithin (before storage n) ds) (start : Initial) → WellInitial program scopes there may_call (it n ty v ds h ∷ ds) start → (w : World) → At (context n ds h) w
         → From W (before storage n) (λ u x. IsTypedBy (it n ty v ds h ∷ ds) x) w (declare_global filling program called ty (slot_in storage n) v.shape (resolved_initial (it n ty v ds h ∷ ds) start) w)
     global_from n ty v ds h bare_start well w at =
         made_from n ty v ds h (cell_count v.shape 0) _ (one_cell v.shape 0) (zeros_sound (slot_in storage n) 0 (cell_count v.shape 0)) w at
     global_from n ty v ds h (one_start e) well w at = object_from n ty v ds h (one_start e) well w at
     global_from n ty v ds h (list_start es) well w at = object_from n ty v ds h (list_start es) well w at
 
-    pub declare_from : (n : ℕ) (ty : Ty) (vs : List Variable) (here around : List Declaration) (h : AllWithin (before storage n) (here ++ around)) → WellVariables program scopes may_call storage here around n ty vs
+    pub declare_from : (n : ℕ) (ty : Ty) (vs : List Variable) (here around : List Declaration) (h : AllWithin (before storage n) (here ++ around)) → WellVariables program scopes there may_call storage here around n ty vs
         → (w : World) → At (context n (here ++ around) h) w
         → From W (before storage n) (λ u x. IsTypedBy (declared ty (numbered (slot_in storage) n vs) here ++ around) x) w (declare filling program called ty (resolved_variables here around ty (numbered (slot_in storage) n vs)) w)
     declare_from n ty [] here around h well w at = from_going tt w (keeps_refl (before storage n) w) at.typed
@@ -251,7 +286,7 @@ module _ (filling : Filling) (steady : IsSteady filling) (program : List Outer) 
         (declare_from (suc n) ty vs (d ∷ here) around (within_cons storage n ty v (here ++ around) h) well.1 x
         (record { typed = typed; of_file = λ c. typed_moves (before storage n) file w x (files n) keeps (at.of_file c) })))
 
-    pub globals_from : (n : ℕ) (ty : Ty) (vs : List Variable) (here around : List Declaration) (h : AllWithin (before storage n) (here ++ around)) → WellVariables program scopes may_call storage here around n ty vs
+    pub globals_from : (n : ℕ) (ty : Ty) (vs : List Variable) (here around : List Declaration) (h : AllWithin (before storage n) (here ++ around)) → WellVariables program scopes there may_call storage here around n ty vs
         → (w : World) → At (context n (here ++ around) h) w
         → From W (before storage n) (λ u x. IsTypedBy (declared ty (numbered (slot_in storage) n vs) here ++ around) x) w (declare_globals filling program called ty (resolved_variables here around ty (numbered (slot_in storage) n vs)) w)
     globals_from n ty [] here around h well w at = from_going tt w (keeps_refl (before storage n) w) at.typed
@@ -287,7 +322,7 @@ module _ (filling : Filling) (steady : IsSteady filling) (program : List Outer) 
     within_first n (first_act e) ds h = later n (n + 0) ds (omega arith) h
     within_first n (first_vars ty vs) ds h = within_declared Automatic n (n + length vs) ty vs [] ds refl h
 
-    pub begin_from : (n : ℕ) (i : First) (ds : List Declaration) (h : AllWithin (below n) ds) → WellFirst program scopes may_call ds n i → (w : World) → At (inside n ds h) w
+    pub begin_from : (n : ℕ) (i : First) (ds : List Declaration) (h : AllWithin (below n) ds) → WellFirst program scopes there may_call ds n i → (w : World) → At (inside n ds h) w
         → From W (below n) (λ u x. IsTypedBy (first_declared (numbered_first n i) ++ ds) x) w (begin filling program called (resolved_first ds (numbered_first n i)) w)
     begin_from n no_first ds h well w at = from_going tt w (keeps_refl (below n) w) at.typed
     begin_from n (first_act e) ds h well w at =
@@ -306,18 +341,18 @@ module _ (filling : Filling) (steady : IsSteady filling) (program : List Outer) 
     }
 
     mutual
-      pub exec_sound : (c : Code) (n : ℕ) (ds : List Declaration) (h : AllWithin (below n) ds) → WellCode program scopes may_call ds n c → Sound (inside n ds h) (exec filling program called (resolved_code ds n c))
+      pub exec_sound : (c : Code) (n : ℕ) (ds : List Declaration) (h : AllWithin (below n) ds) → WellCode program scopes there may_call ds n c → Sound (inside n ds h) (exec filling program called (resolved_code ds n c))
       exec_sound (empty s) n ds h well = pures Next
       exec_sound (act e s) n ds h well = bound units (λ x. bound (perform_sound (inside n ds h) at_hole keep e well) (λ y. pures Next))
       exec_sound (block body s) n ds h well = scope_sound _ (body_sound body n [] ds h well)
       exec_sound (if_then t a s) n ds h well =
-          bound units (λ x. bound (used_sound (eval_sound (inside n ds h) at_hole keep t well.0)) (λ v. on_zero_sound v _ _ (pures Next) (exec_sound a n ds h well.1)))
+          bound units (λ x. bound (used_sound (eval_sound (inside n ds h) at_hole keep true t well.0)) (λ v. on_zero_sound v _ _ (pures Next) (exec_sound a n ds h well.1)))
       exec_sound (if_else t a b s) n ds h well =
-          bound units (λ x. bound (used_sound (eval_sound (inside n ds h) at_hole keep t well.0)) (λ v. on_zero_sound v _ _
+          bound units (λ x. bound (used_sound (eval_sound (inside n ds h) at_hole keep true t well.0)) (λ v. on_zero_sound v _ _
           (sound_later n (n + code_count a) ds _ h (omega arith) (exec_sound b (n + code_count a) ds (later n (n + code_count a) ds (omega arith) h) well.1.1))
           (exec_sound a n ds h well.1.0)))
-      exec_sound (while t a s) n ds h well = loop_sound _ (test_turn_sound _ _ (pure tt) (used_sound (eval_sound (inside n ds h) at_hole keep t well.0)) (exec_sound a n ds h well.1) (pures tt))
-      exec_sound (do_while a t s) n ds h well = loop_sound _ (body_turn_sound _ _ (exec_sound a n ds h well.0) (used_sound (eval_sound (inside n ds h) at_hole keep t well.1)))
+      exec_sound (while t a s) n ds h well = loop_sound _ (test_turn_sound _ _ (pure tt) (used_sound (eval_sound (inside n ds h) at_hole keep true t well.0)) (exec_sound a n ds h well.1) (pures tt))
+      exec_sound (do_while a t s) n ds h well = loop_sound _ (body_turn_sound _ _ (exec_sound a n ds h well.0) (used_sound (eval_sound (inside n ds h) at_hole keep true t well.1)))
       exec_sound (for i t u a s) n ds h well =
           let es = first_declared (numbered_first n i) ++ ds in
           let m = n + first_count i in
@@ -325,11 +360,11 @@ module _ (filling : Filling) (steady : IsSteady filling) (program : List Outer) 
           scope_sound _ (then_sound n m ds es h g (omega arith) _ _ (begin_from n i ds h well.0)
           (loop_sound _ (test_turn_sound _ _ _ (test_sound (inside m es g) at_hole keep t well.1.0) (exec_sound a m es g well.1.1.1) (step_sound (inside m es g) at_hole keep u well.1.1.0))))
       exec_sound (give None s) n ds h well = jump_sound (Return None)
-      exec_sound (give (Some e) s) n ds h well = bound units (λ x. bound (used_sound (eval_sound (inside n ds h) at_hole keep e well)) (λ v. pures (Return (Some v))))
+      exec_sound (give (Some e) s) n ds h well = bound units (λ x. bound (used_sound (eval_sound (inside n ds h) at_hole keep true e well)) (λ v. pures (Return (Some v))))
       exec_sound (break s) n ds h well = jump_sound Break
       exec_sound (continue s) n ds h well = jump_sound Continue
 
-      pub body_sound : (b : Body) (n : ℕ) (here around : List Declaration) (h : AllWithin (below n) (here ++ around)) → WellBody program scopes may_call here around n b → Sound (inside n (here ++ around) h) (run_body filling program called (resolved_body here around n b))
+      pub body_sound : (b : Body) (n : ℕ) (here around : List Declaration) (h : AllWithin (below n) (here ++ around)) → WellBody program scopes there may_call here around n b → Sound (inside n (here ++ around) h) (run_body filling program called (resolved_body here around n b))
       body_sound done n here around h well = pures Next
       body_sound (next c rest) n here around h well =
           bound (exec_sound c n (here ++ around) h well.0) (λ flow. on_next_sound flow _

@@ -21,9 +21,9 @@ use Rattle.c_meaning.specs.declared.stop.Flow.TheVariants.{Next, Break, Continue
 use Rattle.c_meaning.specs.World.{World, Run, pure, stop, lift, used, ◌>>=◌, ◌>>◌}
 use Rattle.c_meaning.specs.Steps.{unit, load, store, uninitialised, make, attach, scoped}
 use Rattle.c_meaning.specs.Meaning.{on_zero, unless, jump, on_next, on_turn, turn_test_first, turn_body_first, or_again, turns, looping, cell_count, make_variable, store_zeros}
-use Rattle.run_laws.specs.Typed.{HasObject, IsTypedBy, Keeps}
+use Rattle.run_laws.specs.Typed.{HasObject, HasCells, IsTypedBy, Keeps}
 use Rattle.run_laws.specs.Places.{HasSlotIn, below}
-use Rattle.run_laws.proofs.Keeping.{AllWithin, all_within_more, keeps_refl, typed_moves, Any, From, from_going, from_over, from_bind, unit_keeps, load_keeps, store_keeps, make_keeps, lift_keeps, scoped_keeps, file_below, local_attached, global_attached}
+use Rattle.run_laws.proofs.Keeping.{AllWithin, all_within_more, keeps_refl, typed_moves, Any, From, from_going, from_over, from_bind, unit_keeps, load_keeps, store_keeps, make_keeps, lift_keeps, scoped_keeps, file_below, local_attached, global_attached, local_cells, global_cells}
 
 -- where a part of a program stands: what is shown where the run waits, the scope of the file, whether a call may stand
 -- there, the slots that are kept, and the scope
@@ -178,6 +178,17 @@ pub variable_from : {W : World → Type 0} (storage : Storage) (n : ℕ) (ty : T
 variable_from storage n ty count array one w =
     from_bind (make ty count w) (λ number. attach (slot_in storage n) number) (make_keeps (before storage n) ty count w)
     (λ number x keeps lives. attached storage n number ty count array one x lives)
+
+celled : {W : World → Type 0} (storage : Storage) (n number : ℕ) (ty : Ty) (count : ℕ) (w : World) → slice_get w.objects number ≡ Some (uninitialised ty count)
+    → From {A = Unit {0}} W (before storage n) (λ u x. HasCells x (slot_in storage n) count) w (attach (slot_in storage n) number w)
+celled Automatic n number ty count w h = local_cells n number count w (uninitialised ty count) h (length-replicate count None)
+celled Static n number ty count w h = global_cells n number count w (uninitialised ty count) h (length-replicate count None)
+
+pub cells_from : {W : World → Type 0} (storage : Storage) (n : ℕ) (ty : Ty) (count : ℕ) (w : World)
+    → From {A = Unit {0}} W (before storage n) (λ u x. HasCells x (slot_in storage n) count) w (make_variable ty (slot_in storage n) count w)
+cells_from storage n ty count w =
+    from_bind (make ty count w) (λ number. attach (slot_in storage n) number) (make_keeps (before storage n) ty count w)
+    (λ number x keeps lives. celled storage n number ty count x lives)
 
 pub one_cell : (shape : Shape) (listed : ℕ) → is_array shape ≡ false → cell_count shape listed ≡ 1
 one_cell Scalar listed h = refl

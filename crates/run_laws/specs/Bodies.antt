@@ -1,7 +1,26 @@
--- In a run of a program the slot of each name that is read, written or passed names an object: in
--- statements, in declarations, in the bodies of called functions, and so in the whole run.
-use Rattle.std.specs.Prelude.{⊤, ℕ, zero, suc, ℤ, pos, Bool, List, [], ◌∷◌, length, codes, Option, Some, None}
+-- In a run of a program the slot of each name that is read, written or passed names an object of
+-- its kind, and each function that is called is there and takes its arguments: in statements, in
+-- declarations, in the bodies of called functions, and so in the whole run.
+--
+-- So these cases of the meaning of programs are never met in a run of a checked program: `load`,
+-- `store` and `object_of` of a slot that names no live object, and `load` of a number whose one
+-- cell is not there; `attach` of `Unset`; `index_of` of what is neither a name nor an element;
+-- `store` of an array's list, or of the zeros after it, outside of the object; `enter` and
+-- `enter_body` of nothing; `bind_params` of more or fewer arguments than parameters, and
+-- `bind_param` of a format or a place; `used` of a call of a function without a result; and in the
+-- library `one_number` of anything but one number, `call_getchar` of an argument, `call_printf` of
+-- anything but a format and as many numbers as it has conversions, and `call_scanf` and `read_to`
+-- of anything but `%d` and a place.
+--
+-- Of the other cases that trap one is an ill-formed tree: a list of several initialisers for a
+-- number, in which the rules of kinds see no fault and which the grammar doesn't give. The rest is
+-- what C leaves undefined. `no_hole` is one of the fillings of which the laws speak; it is met
+-- only where the program has a hole, as a checked program may.
+use Rattle.std.specs.Prelude.{⊤, ◌≡◌, ◌≢◌, ◌≤◌, ℕ, zero, suc, ℤ, pos, Bool, true, false, List, [], ◌∷◌, length, codes, All, Option, Some, None}
+use Rattle.c_tree.specs.declared.program.Param.{Param}
 use Rattle.c_tree.specs.declared.stmt.Slot.{Slot}
+use Rattle.c_tree.specs.declared.stmt.Slot.TheVariants.{Unset}
+use Rattle.c_tree.specs.declared.stmt.Shape.{Shape}
 use Rattle.c_tree.specs.declared.stmt.Ty.{Ty}
 use Rattle.c_tree.specs.Tree.{Tree, Initial, bare_start, one_start, list_start, Variable, First, no_first, first_act, first_vars, Code, empty, act, block, if_then, if_else, while, do_while, for, give, break, continue, Body, done, next, vars, Function, Outer, outer_vars, outer_func}
 use Rattle.c_arith.specs.Arith.{is_zero}
@@ -12,7 +31,8 @@ use Rattle.c_meaning.specs.declared.stop.Flow.TheVariants.{Next, Break, Continue
 use Rattle.c_meaning.specs.World.{World, Run, pure, used, ◌>>◌}
 use Rattle.c_meaning.specs.Steps.{unit, store}
 use Rattle.c_meaning.specs.Meaning.{Filling, Called, turn_of_while, turn_test_first, turn_body_first, cell_count, make_variable, definition, eval, declare_local, declare, begin, test_of, step_of, exec, declare_global, declare_globals, make_globals, bind_params, calls, call_limit}
-use Rattle.run_laws.specs.Reads.{Then, Chosen, FindsObject, Inside, Finds}
+use Rattle.run_laws.specs.Typed.{HasCells}
+use Rattle.run_laws.specs.Reads.{Then, Chosen, FindsObject, IsDefinedFor, GivesValue, Inside, Finds}
 
 -- what holds of the rest of a block, if control goes on there
 abbrev pub IfNext : Flow → Type 0 → Type 0
@@ -67,17 +87,21 @@ listed bare_start = 0
 listed (one_start e) = 1
 listed (list_start es) = length es
 
+-- a list has no more initialisers than its array has elements (C11 6.7.9 p2)
+abbrev pub HoldsList : Shape → Initial → Type 0
+HoldsList shape start = is_array shape ≡ true → listed start ≤ cell_count shape (listed start)
+
 module _ (filling : Filling) (program : List Outer) (called : Called) (inside : Inside) where
   -- it is so in an expression that may be absent
-  abbrev pub FindsOption : Option Tree → World → Type 0
-  FindsOption None w = ⊤
-  FindsOption (Some e) w = Finds filling program called inside e w
+  abbrev pub FindsOption : Bool → Option Tree → World → Type 0
+  FindsOption wanted None w = ⊤
+  FindsOption wanted (Some e) w = Finds filling program called inside wanted e w
 
   -- the same of a list of initialisers of a variable, from that cell on
   abbrev pub FindsList : Slot → Bool → ℕ → List Tree → World → Type 0
   FindsList slot array at [] w = FindsObject w slot array
   FindsList slot array at (e ∷ es) w =
-      Finds filling program called inside e w
+      Finds filling program called inside true e w
       × Then (used (eval filling program called e) w) (λ v x.
       FindsObject x slot array
       × Then (store slot (pos at) v x) (λ u y. FindsList slot array (suc at) es y))
@@ -86,7 +110,7 @@ module _ (filling : Filling) (program : List Outer) (called : Called) (inside : 
   abbrev pub FindsInitial : Slot → Bool → Initial → World → Type 0
   FindsInitial slot array bare_start w = FindsObject w slot array
   FindsInitial slot array (one_start e) w =
-      Finds filling program called inside e w
+      Finds filling program called inside true e w
       × Then (used (eval filling program called e) w) (λ v x. FindsObject x slot array)
   FindsInitial slot array (list_start es) w = FindsList slot array 0 es w
 
@@ -94,8 +118,12 @@ module _ (filling : Filling) (program : List Outer) (called : Called) (inside : 
   abbrev pub FindsLocals : Ty → List Variable → World → Type 0
   FindsLocals ty [] w = ⊤
   FindsLocals ty (v ∷ vs) w =
-      Then ((unit_for v.start >> make_variable ty v.slot (cell_count v.shape (listed v.start))) w)
-      (λ u x. FindsInitial v.slot (is_array v.shape) v.start x)
+      (v.slot ≢ Unset)
+      × HoldsList v.shape v.start
+      × Then ((unit_for v.start >> make_variable ty v.slot (cell_count v.shape (listed v.start))) w)
+      (λ u x.
+      HasCells x v.slot (cell_count v.shape (listed v.start))
+      × FindsInitial v.slot (is_array v.shape) v.start x)
       × Then (declare_local filling program called ty v.slot v.shape v.start w) (λ u x.
       FindsLocals ty vs x)
 
@@ -103,51 +131,56 @@ module _ (filling : Filling) (program : List Outer) (called : Called) (inside : 
   abbrev pub FindsGlobals : Ty → List Variable → World → Type 0
   FindsGlobals ty [] w = ⊤
   FindsGlobals ty (v ∷ vs) w =
-      Then (make_variable ty v.slot (cell_count v.shape (listed v.start)) w)
-      (λ u x. FindsInitial v.slot (is_array v.shape) v.start x)
+      (v.slot ≢ Unset)
+      × HoldsList v.shape v.start
+      × Then (make_variable ty v.slot (cell_count v.shape (listed v.start)) w)
+      (λ u x.
+      HasCells x v.slot (cell_count v.shape (listed v.start))
+      × FindsInitial v.slot (is_array v.shape) v.start x)
       × Then (declare_global filling program called ty v.slot v.shape v.start w) (λ u x.
       FindsGlobals ty vs x)
 
   -- the same of the first clause of a `for`
   abbrev pub FindsFirst : First → World → Type 0
   FindsFirst no_first w = ⊤
-  FindsFirst (first_act e) w = Finds filling program called inside e w
+  FindsFirst (first_act e) w = Finds filling program called inside false e w
   FindsFirst (first_vars ty vs) w = FindsLocals ty vs w
 
   abbrev mutual
     -- the same of a statement
     pub FindsCode : Code → World → Type 0
     FindsCode (empty s) w = ⊤
-    FindsCode (act e s) w = Then (unit w) (λ u x. Finds filling program called inside e x)
+    FindsCode (act e s) w = Then (unit w) (λ u x. Finds filling program called inside false e x)
     FindsCode (block body s) w = FindsBody body w
     FindsCode (if_then t a s) w =
         Then (unit w) (λ u x.
-        Finds filling program called inside t x
+        Finds filling program called inside true t x
         × Then (used (eval filling program called t) x) (λ v y.
         Chosen (is_zero v) ⊤ (FindsCode a y)))
     FindsCode (if_else t a b s) w =
         Then (unit w) (λ u x.
-        Finds filling program called inside t x
+        Finds filling program called inside true t x
         × Then (used (eval filling program called t) x) (λ v y.
         Chosen (is_zero v) (FindsCode b y) (FindsCode a y)))
     FindsCode (while t a s) w =
         let test = used (eval filling program called t) in
         let body = exec filling program called a in
-        InLoop (InTestTurn (Finds filling program called inside t) test (FindsCode a) body (λ x. ⊤))
+        let finds = Finds filling program called inside true t in
+        InLoop (InTestTurn finds test (FindsCode a) body (λ x. ⊤))
         (turn_of_while test body) w
     FindsCode (do_while a t s) w =
         let test = used (eval filling program called t) in
         let body = exec filling program called a in
-        InLoop (InBodyTurn (FindsCode a) body (Finds filling program called inside t))
+        InLoop (InBodyTurn (FindsCode a) body (Finds filling program called inside true t))
         (turn_body_first body test) w
     FindsCode (for i t u a s) w =
         let test = test_of filling program called t in
         let body = exec filling program called a in
         FindsFirst i w
         × Then (begin filling program called i w) (λ o x.
-        InLoop (InTestTurn (FindsOption t) test (FindsCode a) body (FindsOption u))
+        InLoop (InTestTurn (FindsOption true t) test (FindsCode a) body (FindsOption false u))
         (turn_test_first test body (step_of filling program called u)) x)
-    FindsCode (give e s) w = Then (unit w) (λ u x. FindsOption e x)
+    FindsCode (give e s) w = Then (unit w) (λ u x. FindsOption true e x)
     FindsCode (break s) w = ⊤
     FindsCode (continue s) w = ⊤
 
@@ -169,11 +202,14 @@ module _ (filling : Filling) (program : List Outer) (called : Called) (inside : 
       × Then (declare_globals filling program called ty vs w) (λ u x. FindsOuters rest x)
   FindsOuters (outer_func f ∷ rest) w = FindsOuters rest w
 
--- what holds in the body of a function holds in the call, after the parameters are bound
-abbrev pub InDefinition : (Body → World → Type 0) → Function → Option Body → List Argument → World → Type 0
+-- the parameters of a function have their slots, and what holds in its body holds in the call,
+-- after the parameters are bound
+abbrev pub InDefinition :
+    (Body → World → Type 0) → Function → Option Body → List Argument → World → Type 0
 InDefinition go f None gs w = ⊤
 InDefinition go f (Some body) gs w =
-    Then (unit w) (λ u x.
+    All (λ (p : Param). p.slot ≢ Unset) f.params
+    × Then (unit w) (λ u x.
     Then (bind_params f.params gs (record x { frame = [] })) (λ o y. go body y))
 
 -- the same of a function, if there is one
@@ -196,10 +232,12 @@ abbrev pub in_calls : Filling → List Outer → ℕ → Inside
 in_calls filling program n word gs w = FindsCall filling program n (definition word program) gs w
 
 -- it is so in the whole run of a program: in the declarations of file scope, and then in the call
--- of `main`
+-- of `main`, which is defined and has no parameters
 abbrev pub RunFinds : Filling → List Outer → World → Type 0
 RunFinds filling program w =
     FindsOuters filling program (calls filling program call_limit)
     (in_calls filling program call_limit) program w
     × Then (make_globals filling program (calls filling program call_limit) program w) (λ u x.
-    FindsCall filling program call_limit (definition (codes "main") program) [] x)
+    IsDefinedFor program (codes "main") [] x
+    × GivesValue program (codes "main")
+    × FindsCall filling program call_limit (definition (codes "main") program) [] x)

@@ -78,11 +78,12 @@ abbrev mutual
   code_holes ds (break s) = []
   code_holes ds (continue s) = []
 
-  -- the same of the items of a block, where some names are declared in it before them, and some in the
-  -- scopes around it
+  -- the same of the items of a block, where some names are declared in it before them, and some in
+  -- the scopes around it
   pub body_holes : Names → Names → Body → List Names
   body_holes here around done = []
-  body_holes here around (next c rest) = code_holes (here ++ around) c ++ body_holes here around rest
+  body_holes here around (next c rest) =
+      code_holes (here ++ around) c ++ body_holes here around rest
   body_holes here around (vars ty vs rest) =
       variables_holes here around ty vs ++ body_holes (declared ty vs here) around rest
 

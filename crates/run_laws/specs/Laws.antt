@@ -1,37 +1,26 @@
--- Laws of the runs of programs without a fault.
-use Rattle.std.specs.Prelude.{⊤, ◌≡◌, ℕ, ℤ, Bool, true, List, [], ◌++◌, All, Contains, Option, Some, None}
+-- Laws of the runs of checked programs. A program with a hole may be one, though no text is that
+-- program.
+use Rattle.std.specs.Prelude.{⊤, ◌≡◌, ℕ, ℤ, Bool, true, List, [], ◌++◌, All, Contains, Option, Some, if◌then◌else◌}
 use Rattle.c_tree.specs.declared.stmt.Slot.{Slot}
 use Rattle.c_tree.specs.declared.stmt.Ty.{Ty}
 use Rattle.c_tree.specs.Tree.{Tree, Code, Outer}
 use Rattle.c_types.specs.declared.scope.Entity.TheVariants.{Variable}
 use Rattle.c_types.specs.Evidence.{IsChecked}
-use Rattle.c_types.specs.Programs.{program_faults}
 use Rattle.c_types.specs.Formats as kinds
 use Rattle.c_types.specs.Scopes.{denoted}
-use Rattle.c_types.specs.Slots.{resolved_tree, resolved_code, resolved}
+use Rattle.c_types.specs.Slots.{resolved_tree, resolved_code}
 use Rattle.c_types.specs.Statements.{code_faults}
-use Rattle.c_types.specs.Expressions.{faults}
-use Rattle.c_types.specs.Uses.{Use, tree_uses, uses, IsResolved}
+use Rattle.c_types.specs.Expressions.{as_number, as_void, faults}
+use Rattle.c_types.specs.Uses.{Use, uses}
 use Rattle.c_stdio.specs.Formats as printing
 use Rattle.c_meaning.specs.World.{World, Out, going, over, waiting}
 use Rattle.c_meaning.specs.Meaning.{Filling, exec, calls, run_program}
 use Rattle.c_meaning.specs.Laws.{FitsCell, FitsWorld}
 use Rattle.run_laws.specs.Typed.{HasObject, IsTypedBy, IsSteady, KeepsNumbers}
 use Rattle.run_laws.specs.Holes.{Names, code_holes, holes}
-use Rattle.run_laws.specs.Places.{file_scope, IsScopeIn}
+use Rattle.run_laws.specs.Places.{file_scope, IsThere, IsScopeIn}
 use Rattle.run_laws.specs.Reads.{Finds}
 use Rattle.run_laws.specs.Bodies.{in_calls, RunFinds}
-
--- A program without a fault, whatever the length of its source, in which each name has the slot of the
--- variable that it denotes. A checked program is one. A program with holes may be one too, though its
--- parts don't all stand in a text.
-pub record IsSound (p : List Outer) : Type 0 where
-  pub faultless : (end : ℕ) → program_faults p end ≡ []
-  pub is_resolved : resolved p ≡ p
-  pub names : All IsResolved (uses p)
-
-abbrev pub CheckedAreSound : Type 0
-CheckedAreSound = (p : List Outer) → IsChecked p → IsSound p
 
 -- a state is typed by one of these scopes
 pub record IsTypedByOne (scopes : List Names) (w : World) : Type 0 where
@@ -39,20 +28,22 @@ pub record IsTypedByOne (scopes : List Names) (w : World) : Type 0 where
   pub is_scope : Contains scopes scope
   pub typed : IsTypedBy scope w
 
--- Wherever a run of such a program waits for a hole, each variable that is in scope at the hole
+-- Wherever a run of a checked program waits for a hole, each variable that is in scope at the hole
 -- has its object, whatever the holes did before, as long as they left the variables their objects.
 -- Where the program has one hole, the scope is that hole's.
 abbrev pub HolesAreTyped : Type 0
-HolesAreTyped = (p : List Outer) → IsSound p → (filling : Filling) → IsSteady filling
-    → (old : Option ℤ) (w x : World) → run_program filling p w ≡ waiting old x → IsTypedByOne (holes p) x
+HolesAreTyped = (p : List Outer) → IsChecked p → (filling : Filling) → IsSteady filling
+    → (old : Option ℤ) (w x : World) → run_program filling p w ≡ waiting old x
+    → IsTypedByOne (holes p) x
 
 -- and each number in a cell is a value of the cell's type there
 abbrev pub HolesFit : Type 0
 HolesFit = (p : List Outer) (filling : Filling) → KeepsNumbers filling
-    → (old : Option ℤ) (w x : World) → FitsWorld w → run_program filling p w ≡ waiting old x → FitsWorld x
+    → (old : Option ℤ) (w x : World) → FitsWorld w → run_program filling p w ≡ waiting old x
+    → FitsWorld x
 
--- the slot of a name names an object of the variable that its word denotes: of its type, and of one cell
--- unless it is an array, as it is where an element is meant
+-- the slot of a name names an object of the variable that its word denotes: of its type, and of one
+-- cell unless it is an array, as it is where an element is meant
 pub record NameHasObject (u : Use) (w : World) : Type 0 where
   pub ty : Ty
   pub array : Bool
@@ -62,7 +53,7 @@ pub record NameHasObject (u : Use) (w : World) : Type 0 where
 
 -- in a state that is typed by the scope of a name, the slot of the name names an object
 abbrev pub NamesHaveObjects : Type 0
-NamesHaveObjects = (p : List Outer) → IsSound p
+NamesHaveObjects = (p : List Outer) → IsChecked p
     → All (λ (u : Use). (w : World) → IsTypedBy u.scope w → NameHasObject u w) (uses p)
 
 -- a variable has its object, and each number in a cell of it is a value of the variable's type
@@ -86,29 +77,31 @@ EndsTyped scopes ds (waiting old x) = IsTypedByOne scopes x
 -- A statement without a fault, resolved, run in such a program from a state that is typed by its
 -- scope and that of the file, ends in a state that is typed by its scope.
 abbrev pub StatementsKeepTypes : Type 0
-StatementsKeepTypes = (p : List Outer) → IsSound p → (filling : Filling) → IsSteady filling
+StatementsKeepTypes = (p : List Outer) → IsChecked p → (filling : Filling) → IsSteady filling
     → (left n : ℕ) (ds : Names) → IsScopeIn p n ds
     → (ret : Option Ty) (in_loop : Bool) (c : Code) → code_faults ret ds in_loop c ≡ []
     → resolved_code ds n c ≡ c
     → (w : World) → IsTypedBy ds w → IsTypedBy (file_scope p) w
     → EndsTyped (code_holes ds c ++ holes p) ds (exec filling p (calls filling p left) c w)
 
--- An expression without a fault, in which each name has its slot, evaluated in such a program
--- from a state that is typed by its scope and that of the file: each slot that is read, written or
--- passed then names a live object, and so it is in the functions that it calls.
+-- An expression without a fault, which is a number, or where its value isn't wanted perhaps a call
+-- without a result, in which each name has its slot, evaluated in such a program from a state that
+-- is typed by its scope and that of the file: each slot that is read, written or passed then names
+-- a live object of its kind, what is called is there and takes its arguments, and so it is in the
+-- functions that it calls.
 abbrev pub ExpressionsFindObjects : Type 0
-ExpressionsFindObjects = (p : List Outer) → IsSound p → (filling : Filling) → IsSteady filling
-    → (left n : ℕ) (ds : Names) → IsScopeIn p n ds
-    → (e : Tree) → faults ds e ≡ [] → resolved_tree ds e ≡ e
-    → All IsResolved (tree_uses ds None e)
+ExpressionsFindObjects = (p : List Outer) → IsChecked p → (filling : Filling) → IsSteady filling
+    → (left n : ℕ) (ds : Names) → IsScopeIn p n ds → All (IsThere p) ds
+    → (wanted : Bool) (e : Tree) → (if wanted then as_number ds e else as_void ds e) ≡ []
+    → faults ds e ≡ [] → resolved_tree ds e ≡ e
     → (w : World) → IsTypedBy ds w → IsTypedBy (file_scope p) w
-    → Finds filling p (calls filling p left) (in_calls filling p left) e w
+    → Finds filling p (calls filling p left) (in_calls filling p left) wanted e w
 
--- In a run of such a program each slot that is read, written or passed names a live object: in
--- whatever state the run begins, and whatever its holes do, as long as they leave the variables their
--- objects.
+-- In a run of such a program each slot that is read, written or passed names a live object of its
+-- kind, and what is called is there and takes its arguments: in whatever state the run begins, and
+-- whatever its holes do, as long as they leave the variables their objects.
 abbrev pub RunsFindObjects : Type 0
-RunsFindObjects = (p : List Outer) → IsSound p → (filling : Filling) → IsSteady filling
+RunsFindObjects = (p : List Outer) → IsChecked p → (filling : Filling) → IsSteady filling
     → (w : World) → RunFinds filling p w
 
 -- the rules of kinds and the printing count the conversions of a format alike (C11 7.21.6.1)

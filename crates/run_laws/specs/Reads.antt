@@ -1,13 +1,19 @@
 -- In the evaluation of an expression the slot of each name that is read, written or passed names a
--- live object.
-use Rattle.std.specs.Prelude.{⊤, ◌≡◌, ℕ, List, None, Bool, true, false}
+-- live object of its kind, what is written to is a place, and each function that is called is
+-- there, takes the arguments, and has a result where one is wanted.
+use Rattle.std.specs.Prelude.{⊤, ◌≡◌, ◌≢◌, ℕ, ℤ, List, [], ◌∷◌, map, length, slice_get, codes, Some, None, Bool, true, false}
 use Rattle.c_tree.specs.declared.program.Param.{Param}
 use Rattle.c_tree.specs.declared.stmt.Slot.{Slot}
 use Rattle.c_tree.specs.declared.stmt.Ty.{Ty}
-use Rattle.c_tree.specs.Tree.{Tree, constant, name, index, call, unary, cast, binary, choice, assign, bump, comma, hole, hole_after, Args, no_args, value, format, address, Outer}
+use Rattle.c_tree.specs.declared.stmt.Ty.TheVariants.{Int}
+use Rattle.c_tree.specs.Tree.{Tree, constant, name, index, call, unary, cast, binary, choice, assign, bump, comma, hole, hole_after, Args, no_args, value, format, address, Body, Function, Outer}
 use Rattle.c_arith.specs.Arith.{is_zero}
+use Rattle.c_types.specs.Library as names
+use Rattle.c_types.specs.Scopes.{is_declared}
+use Rattle.c_stdio.specs.Formats.{conversions}
 use Rattle.c_meaning.specs.declared.argument.Argument.{Argument}
-use Rattle.c_meaning.specs.World.{World, Out, going, over, waiting, used}
+use Rattle.c_meaning.specs.declared.argument.Argument.TheVariants.{Number, Array, Format, Place}
+use Rattle.c_meaning.specs.World.{Object, World, Out, going, over, waiting, used}
 use Rattle.c_meaning.specs.Meaning.{Filling, Called, decided, slot_of, definition, params_of, takes_array, rest_of, passed, eval, index_of, evals}
 use Rattle.run_laws.specs.Typed.{HasObject}
 
@@ -22,32 +28,86 @@ abbrev pub Chosen : Bool → Type 0 → Type 0 → Type 0
 Chosen true P Q = P
 Chosen false P Q = Q
 
--- a slot names a live object
-pub record FindsObject (w : World) (slot : Slot) (element : Bool) : Type 0 where
+-- ---- objects and places
+
+-- a slot names a live object, that of an array or that of a number
+pub record FindsObject (w : World) (slot : Slot) (array : Bool) : Type 0 where
   pub ty : Ty
-  pub array : Bool
   pub has : HasObject w slot ty array
-  pub indexed : element ≡ true → array ≡ true
 
--- a place is an element
-abbrev pub is_element : Tree → Bool
-is_element (index word slot e s) = true
-is_element (name word slot s) = false
-is_element (constant n word s) = false
-is_element (call word args s) = false
-is_element (unary op e s) = false
-is_element (cast ty e s) = false
-is_element (binary op l r s) = false
-is_element (choice t a b s) = false
-is_element (assign op place e s) = false
-is_element (bump pre up place s) = false
-is_element (comma l r s) = false
-is_element hole = false
-is_element (hole_after e) = false
+-- a slot names the object of a number, which has exactly one cell
+abbrev pub FindsScalar : World → Slot → Type 0
+FindsScalar w slot = FindsObject w slot false
 
--- the variable of a place has its object; what is no place has none
+-- a slot names the object of an array
+abbrev pub FindsArray : World → Slot → Type 0
+FindsArray w slot = FindsObject w slot true
+
+-- a place is a name or an element, and its variable has its object: that of a number for a name,
+-- that of an array for an element
 abbrev pub FindsPlace : Tree → World → Type 0
-FindsPlace e w = FindsObject w (slot_of e) (is_element e)
+FindsPlace (name word slot s) w = FindsScalar w slot
+FindsPlace (index word slot e s) w = FindsArray w slot
+FindsPlace (constant n word s) w = ⊥
+FindsPlace (call word args s) w = ⊥
+FindsPlace (unary op e s) w = ⊥
+FindsPlace (cast ty e s) w = ⊥
+FindsPlace (binary op l r s) w = ⊥
+FindsPlace (choice t a b s) w = ⊥
+FindsPlace (assign op place e s) w = ⊥
+FindsPlace (bump pre up place s) w = ⊥
+FindsPlace (comma l r s) w = ⊥
+FindsPlace hole w = ⊥
+FindsPlace (hole_after e) w = ⊥
+
+-- ---- calls
+
+-- a live object of that type
+pub record IsLive (w : World) (number : ℕ) (ty : Ty) : Type 0 where
+  pub object : Object
+  pub lives : slice_get w.objects number ≡ Some object
+  pub typed : object.ty ≡ ty
+
+-- a parameter takes an argument: a number, or where it is an array, a live array of its type
+abbrev pub Takes : Param → Argument → World → Type 0
+Takes p (Number v) w = p.array ≡ false
+Takes p (Array n) w = (p.array ≡ true) × IsLive w n p.ty
+Takes p (Format f) w = ⊥
+Takes p (Place slot i) w = ⊥
+
+-- there are as many arguments as parameters, and each takes its own
+abbrev pub TakesAll : List Param → List Argument → World → Type 0
+TakesAll [] [] w = ⊤
+TakesAll [] (a ∷ gs) w = ⊥
+TakesAll (p ∷ ps) [] w = ⊥
+TakesAll (p ∷ ps) (a ∷ gs) w = Takes p a w × TakesAll ps gs w
+
+-- the program defines a function of that word, which takes the arguments
+pub record IsDefinedFor (program : List Outer) (word : List ℕ) (gs : List Argument) (w : World) :
+    Type 0 where
+  pub function : Function
+  pub is : definition word program ≡ Some function
+  pub body : Body
+  pub has_body : function.body ≡ Some body
+  pub takes : TakesAll function.params gs w
+
+-- what is called is there, and takes the arguments: a function of the library, or one that the
+-- program defines
+pub data IsCallable (program : List Outer) (w : World) : List ℕ → List Argument → Type 0 where
+  getchar : IsCallable program w (codes "getchar") []
+  putchar : (v : ℤ) → IsCallable program w (codes "putchar") (Number v ∷ [])
+  abs : (v : ℤ) → IsCallable program w (codes "abs") (Number v ∷ [])
+  exit : (v : ℤ) → IsCallable program w (codes "exit") (Number v ∷ [])
+  printf : (f : List ℕ) (vs : List ℤ) → conversions f ≡ Some (length vs)
+      → IsCallable program w (codes "printf") (Format f ∷ map (λ v. Number v) vs)
+  scanf : (slot : Slot) (i : ℤ) (array : Bool) → HasObject w slot Int array
+      → IsCallable program w (codes "scanf") (Format (codes "%d") ∷ (Place slot i ∷ []))
+  own : (word : List ℕ) (gs : List Argument) → is_declared names.library word ≡ false
+      → IsDefinedFor program word gs w → IsCallable program w word gs
+
+-- a function that the program defines by that word has a result
+abbrev pub GivesValue : List Outer → List ℕ → Type 0
+GivesValue program word = (f : Function) → definition word program ≡ Some f → f.ret ≢ None
 
 -- what holds in a call of a function, by the called word and the arguments
 abbrev pub Inside : Type 1
@@ -55,58 +115,63 @@ Inside = List ℕ → List Argument → World → Type 0
 
 module _ (filling : Filling) (program : List Outer) (called : Called) (inside : Inside) where
   abbrev mutual
-    -- it is so in the evaluation of an expression from a state, and in the functions that it calls
-    pub Finds : Tree → World → Type 0
-    Finds (constant n word s) w = ⊤
-    Finds (name word slot s) w = FindsObject w slot false
-    Finds (index word slot e s) w =
-        Finds e w × Then (used (eval filling program called e) w) (λ i x. FindsObject x slot true)
-    Finds (call word args s) w =
+    -- it is so in the evaluation of an expression from a state, and in the functions that it calls;
+    -- a call whose value is wanted has one
+    pub Finds : Bool → Tree → World → Type 0
+    Finds wanted (constant n word s) w = ⊤
+    Finds wanted (name word slot s) w = FindsScalar w slot
+    Finds wanted (index word slot e s) w =
+        Finds true e w × Then (used (eval filling program called e) w) (λ i x. FindsArray x slot)
+    Finds wanted (call word args s) w =
         FindsArgs (params_of (definition word program)) args w
-        × Then (evals filling program called (params_of (definition word program)) args w) (inside word)
-    Finds (unary op e s) w = Finds e w
-    Finds (cast ty e s) w = Finds e w
-    Finds (binary op l r s) w =
-        Finds l w
-        × Then (used (eval filling program called l) w) (λ a x. decided op a ≡ None → Finds r x)
-    Finds (choice t a b s) w =
-        Finds t w
-        × Then (used (eval filling program called t) w) (λ v x. Chosen (is_zero v) (Finds b x) (Finds a x))
-    Finds (assign op place e s) w =
+        × Then (evals filling program called (params_of (definition word program)) args w)
+        (λ gs x.
+        IsCallable program x word gs × (wanted ≡ true → GivesValue program word) × inside word gs x)
+    Finds wanted (unary op e s) w = Finds true e w
+    Finds wanted (cast ty e s) w = Finds true e w
+    Finds wanted (binary op l r s) w =
+        Finds true l w
+        × Then (used (eval filling program called l) w)
+        (λ a x. decided op a ≡ None → Finds true r x)
+    Finds wanted (choice t a b s) w =
+        Finds true t w
+        × Then (used (eval filling program called t) w)
+        (λ v x. Chosen (is_zero v) (Finds true b x) (Finds true a x))
+    Finds wanted (assign op place e s) w =
         FindsIndex place w
         × Then (index_of filling program called place w) (λ i x.
-        Finds e x × Then (used (eval filling program called e) x) (λ v y. FindsPlace place y))
-    Finds (bump pre up place s) w =
+        Finds true e x × Then (used (eval filling program called e) x) (λ v y. FindsPlace place y))
+    Finds wanted (bump pre up place s) w =
         FindsIndex place w
         × Then (index_of filling program called place w) (λ i x. FindsPlace place x)
-    Finds (comma l r s) w =
-        Finds l w × Then (eval filling program called l w) (λ o x. Finds r x)
-    Finds hole w = ⊤
-    Finds (hole_after e) w = Finds e w
+    Finds wanted (comma l r s) w =
+        Finds false l w × Then (eval filling program called l w) (λ o x. Finds true r x)
+    Finds wanted hole w = ⊤
+    Finds wanted (hole_after e) w = Finds true e w
 
-    -- the same of the index of a place
+    -- the same of the index of a place, which is a name or an element
     pub FindsIndex : Tree → World → Type 0
-    FindsIndex (index word slot e s) w = Finds e w
+    FindsIndex (index word slot e s) w = Finds true e w
     FindsIndex (name word slot s) w = ⊤
-    FindsIndex (constant n word s) w = ⊤
-    FindsIndex (call word args s) w = ⊤
-    FindsIndex (unary op e s) w = ⊤
-    FindsIndex (cast ty e s) w = ⊤
-    FindsIndex (binary op l r s) w = ⊤
-    FindsIndex (choice t a b s) w = ⊤
-    FindsIndex (assign op place e s) w = ⊤
-    FindsIndex (bump pre up place s) w = ⊤
-    FindsIndex (comma l r s) w = ⊤
-    FindsIndex hole w = ⊤
-    FindsIndex (hole_after e) w = ⊤
+    FindsIndex (constant n word s) w = ⊥
+    FindsIndex (call word args s) w = ⊥
+    FindsIndex (unary op e s) w = ⊥
+    FindsIndex (cast ty e s) w = ⊥
+    FindsIndex (binary op l r s) w = ⊥
+    FindsIndex (choice t a b s) w = ⊥
+    FindsIndex (assign op place e s) w = ⊥
+    FindsIndex (bump pre up place s) w = ⊥
+    FindsIndex (comma l r s) w = ⊥
+    FindsIndex hole w = ⊥
+    FindsIndex (hole_after e) w = ⊥
 
     -- the same of arguments for these parameters: an array is passed as its object
     pub FindsArgs : List Param → Args → World → Type 0
     FindsArgs ps no_args w = ⊤
     FindsArgs ps (value e rest) w =
-        Chosen (takes_array ps) (FindsObject w (slot_of e) true) (Finds e w)
-        × Then (passed (takes_array ps) (slot_of e) (used (eval filling program called e)) w) (λ a x.
-        FindsArgs (rest_of ps) rest x)
+        Chosen (takes_array ps) (FindsArray w (slot_of e)) (Finds true e w)
+        × Then (passed (takes_array ps) (slot_of e) (used (eval filling program called e)) w)
+        (λ a x. FindsArgs (rest_of ps) rest x)
     FindsArgs ps (format text s rest) w = FindsArgs (rest_of ps) rest w
     FindsArgs ps (address e rest) w =
         FindsIndex e w

@@ -20,6 +20,14 @@ pub record HasObject (w : World) (slot : Slot) (ty : Ty) (array : Bool) : Type 0
   pub typed : object.ty ≡ ty
   pub single : array ≡ false → length object.cells ≡ 1
 
+-- the slot of a variable names a live object of so many cells
+pub record HasCells (w : World) (slot : Slot) (count : ℕ) : Type 0 where
+  pub number : ℕ
+  pub object : Object
+  pub names : number_of slot w ≡ Some number
+  pub lives : slice_get w.objects number ≡ Some object
+  pub many : length object.cells ≡ count
+
 -- what a name denotes has its object, if it is a variable
 abbrev pub EntityHasObject : World → Entity → Type 0
 EntityHasObject w (Variable slot ty array) = HasObject w slot ty array
@@ -50,7 +58,8 @@ pub record Keeps (slots : Slot → Type 0) (w x : World) : Type 0 where
 abbrev pub every_slot : Slot → Type 0
 every_slot slot = ⊤
 
--- what is done from a state leaves each variable its object, where the run goes on, and where it waits
+-- what is done from a state leaves each variable its object, where the run goes on, and where it
+-- waits
 abbrev pub KeepsObjects : {A : Type 0} → World → Out A → Type 0
 KeepsObjects w (going a x) = Keeps every_slot w x
 KeepsObjects w (over e x) = ⊤

@@ -1,17 +1,12 @@
-//! Laws of the runs of checked programs, each the contract of a function that does nothing.
+//! Laws of the runs of checked programs, each the contract of a function that does nothing. A program with a hole may
+//! be checked, though no text is that program.
 
-ghost use Rattle.run_laws.specs.Laws.{CheckedAreSound, HolesAreTyped, HolesFit, NamesHaveObjects};
+ghost use Rattle.run_laws.specs.Laws.{HolesAreTyped, HolesFit, NamesHaveObjects};
 ghost use Rattle.run_laws.specs.Laws.{TypedStatesShowVariables, StatementsKeepTypes, ExpressionsFindObjects};
 ghost use Rattle.run_laws.specs.Laws.{RunsFindObjects, FormatsAgree};
 
-/// A checked program has no fault, and each of its names has its slot. The other laws ask for this alone, since a program
-/// with a hole may have it too, though no text is that program.
-pub fn checked_are_sound()
-    ensures { CheckedAreSound }
-{}
-
-/// Wherever a run of such a program waits for a hole, each variable that is in scope there has a live object of its type
-/// (C11 6.2.4), and each number in an object is a value of that type.
+/// Wherever a run of a checked program waits for a hole, each variable that is in scope there has a live object of its
+/// type (C11 6.2.4), and each number in an object is a value of that type.
 pub fn holes_are_typed()
     ensures objects { HolesAreTyped }
     ensures numbers { HolesFit }
@@ -35,13 +30,16 @@ pub fn statements_keep_types()
 {}
 
 /// In the evaluation of an expression without a fault, in which each name has its slot, each slot that is read, written
-/// or passed names a live object.
+/// or passed names a live object of its kind, what is written to is a place, and what is called is there, takes its
+/// arguments, and has a result where one is wanted.
 pub fn expressions_find_objects()
     ensures { ExpressionsFindObjects }
 {}
 
-/// In a run of a program without a fault, in which each name has its slot, each slot that is read, written or passed
-/// names a live object: in the declarations of file scope, in `main`, and in each function that is called.
+/// In a run of a checked program each slot that is read, written or passed names a live object of its kind, what is
+/// written to is a place, and what is called is there, takes its arguments, and has a result where one is wanted: in
+/// the declarations of file scope, in `main`, which is defined without parameters, and in each function that is called.
+/// So no such run ends as trapped because a name, a place, a call or an array's list is ill-formed.
 pub fn runs_find_objects()
     ensures { RunsFindObjects }
 {}

@@ -4,6 +4,6 @@
 mod laws;
 
 pub use laws::{
-    checked_are_sound, expressions_find_objects, formats_agree, holes_are_typed,
-    names_have_objects, runs_find_objects, statements_keep_types, typed_states_show_variables,
+    expressions_find_objects, formats_agree, holes_are_typed, names_have_objects,
+    runs_find_objects, statements_keep_types, typed_states_show_variables,
 };
