@@ -3,4 +3,7 @@ pub mod Compile
 pub mod Go
 pub mod Flat
 pub mod Shown
+pub mod Holed
+pub mod Leading
+pub mod Growing
 pub mod Laws

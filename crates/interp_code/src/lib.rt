@@ -1,10 +1,20 @@
-//! The nodes of flat code, the plans that they stand for, and the law of plans. No call makes such code yet.
+//! Programs as flat code: a vector of nodes, each of which leads to lower places, with a hole at a location.
 #![tactic(auto)]
 
+mod calls;
+mod code;
+mod context;
+mod declarations;
+mod expressions;
+mod holes;
 mod laws;
 mod node;
+mod program;
 mod routine;
+mod statements;
 
+pub use code::Code;
 pub use laws::plans_are_right;
 pub use node::{Callee, Given, Node};
+pub use program::flatten;
 pub use routine::Routine;

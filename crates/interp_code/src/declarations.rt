@@ -1,0 +1,249 @@
+//! The code of declarations.
+
+ghost use Rattle.std.specs.Prelude.{◌≡◌, ◌-◌, ◌<◌, pos, length, IfOk};
+ghost use Rattle.c_tree.specs.Tree.{list_start};
+ghost use Rattle.c_tree.specs.Views.{tree, trees, initial, variables};
+ghost use Rattle.c_meaning.specs.Meaning.{cell_count as count_of};
+ghost use Rattle.interp_code.specs.Plan.{push, keep, forget};
+ghost use Rattle.interp_code.specs.Flat.{plan_at, Grown};
+ghost use Rattle.interp_code.specs.Holed.{value_plan, list_plan, object_plan, local_plan, locals_plan, global_plan, globals_plan};
+
+use crate::code::Nodes;
+use crate::context::Context;
+use crate::expressions::{flat_right, flat_value};
+use crate::node::Node;
+use c_tree::{Declarator, Expr, NoMemory, Shape, Slot, Start, Ty};
+
+/// The number of cells of a variable, where so many initialisers are listed.
+fn cell_count(shape: Shape, listed: usize) -> usize
+    ensures { result ≡ count_of shape listed }
+{
+    match shape {
+        Shape::Scalar => 1,
+        Shape::Array(Some(count)) => count.unsigned_abs() as usize,
+        Shape::Array(None) => listed,
+    }
+}
+
+/// The code that stores a value in a variable and drops it.
+fn flat_store(nodes: &mut Nodes, slot: Slot, next: usize) -> Result<usize, NoMemory>
+    requires { next < length nodes.old }
+    ensures { IfOk result (λ at. Grown nodes.old nodes.new at
+        (keep slot (forget (plan_at nodes.old next)))) }
+{
+    let forget = nodes.push(Node::Forget { next })?;
+    nodes.push(Node::Keep { slot, next: forget })
+}
+
+/// The code of an element of a list of initialisers, which is stored in a cell.
+fn flat_element(
+    context: &Context<'_>,
+    nodes: &mut Nodes,
+    slot: Slot,
+    cell: usize,
+    e: &Expr,
+    next: usize,
+) -> Result<usize, NoMemory>
+    requires cell { cell < 9223372036854775808 }
+    requires next { next < length nodes.old }
+    ensures { IfOk result (λ at. Grown nodes.old nodes.new at
+        (push (pos cell) (value_plan context.now (tree e.now)
+        (keep slot (forget (plan_at nodes.old next)))))) }
+{
+    let store = flat_store(nodes, slot, next)?;
+    let value = flat_value(context, nodes, e, store)?;
+    nodes.push(Node::Push {
+        value: cell as i64,
+        next: value,
+    })
+}
+
+/// The code of a list of initialisers.
+fn flat_list(
+    context: &Context<'_>,
+    nodes: &mut Nodes,
+    slot: Slot,
+    elements: &[Expr],
+    next: usize,
+) -> Result<usize, NoMemory>
+    requires { next < length nodes.old }
+    ensures { IfOk result (λ at. Grown nodes.old nodes.new at
+        (list_plan context.now slot 0 (trees elements.now) (plan_at nodes.old next))) }
+{
+    let mut at = next;
+    let mut left = elements.len();
+    'each: while left > 0 {
+        left -= 1;
+        at = flat_element(context, nodes, slot, left, &elements[left], at)?;
+    }
+    Ok(at)
+}
+
+/// The code of a new object and its initialiser.
+fn flat_object(
+    context: &Context<'_>,
+    nodes: &mut Nodes,
+    ty: Ty,
+    declarator: &Declarator,
+    next: usize,
+) -> Result<usize, NoMemory>
+    requires { next < length nodes.old }
+    ensures { IfOk result (λ at. Grown nodes.old nodes.new at
+        (object_plan context.now ty declarator.now.slot declarator.now.shape (initial declarator.now.start)
+        (plan_at nodes.old next))) }
+{
+    let slot = declarator.slot;
+    match &declarator.start {
+        Start::Bare => nodes.push(Node::Create {
+            ty,
+            slot,
+            count: cell_count(declarator.shape, 0),
+            next,
+        }),
+        Start::One(e) => {
+            let store = flat_store(nodes, slot, next)?;
+            let value = flat_right(context, nodes, e, store)?;
+            let first = nodes.push(Node::Push {
+                value: 0,
+                next: value,
+            })?;
+            nodes.push(Node::Create {
+                ty,
+                slot,
+                count: cell_count(declarator.shape, 1),
+                next: first,
+            })
+        }
+        Start::List(elements) => flat_listed(context, nodes, ty, declarator, elements, next),
+    }
+}
+
+/// The code of a new object with a list of initialisers, behind which its cells are 0.
+fn flat_listed(
+    context: &Context<'_>,
+    nodes: &mut Nodes,
+    ty: Ty,
+    declarator: &Declarator,
+    elements: &[Expr],
+    next: usize,
+) -> Result<usize, NoMemory>
+    requires { next < length nodes.old }
+    ensures { IfOk result (λ at. Grown nodes.old nodes.new at
+        (object_plan context.now ty declarator.now.slot declarator.now.shape (list_start (trees elements.now))
+        (plan_at nodes.old next))) }
+{
+    let slot = declarator.slot;
+    let listed = elements.len();
+    let count = cell_count(declarator.shape, listed);
+    let clear = nodes.push(Node::Clear {
+        slot,
+        from: listed,
+        count: count.saturating_sub(listed),
+        next,
+    })?;
+    let list = flat_list(context, nodes, slot, elements, clear)?;
+    nodes.push(Node::Create {
+        ty,
+        slot,
+        count,
+        next: list,
+    })
+}
+
+/// The code of a declarator in a function, which takes a unit where it has an initialiser.
+fn flat_local(
+    context: &Context<'_>,
+    nodes: &mut Nodes,
+    ty: Ty,
+    declarator: &Declarator,
+    next: usize,
+) -> Result<usize, NoMemory>
+    requires { next < length nodes.old }
+    ensures { IfOk result (λ at. Grown nodes.old nodes.new at
+        (local_plan context.now ty declarator.now.slot declarator.now.shape (initial declarator.now.start)
+        (plan_at nodes.old next))) }
+{
+    let object = flat_object(context, nodes, ty, declarator, next)?;
+    match &declarator.start {
+        Start::Bare => Ok(object),
+        Start::One(_) => nodes.push(Node::Spend { next: object }),
+        Start::List(_) => nodes.push(Node::Spend { next: object }),
+    }
+}
+
+/// The code of a declaration in a function.
+pub fn flat_locals(
+    context: &Context<'_>,
+    nodes: &mut Nodes,
+    ty: Ty,
+    declarators: &[Declarator],
+    next: usize,
+) -> Result<usize, NoMemory>
+    requires { next < length nodes.old }
+    ensures { IfOk result (λ at. Grown nodes.old nodes.new at
+        (locals_plan context.now ty (variables declarators.now) (plan_at nodes.old next))) }
+{
+    let mut at = next;
+    let mut left = declarators.len();
+    'each: while left > 0 {
+        left -= 1;
+        at = flat_local(context, nodes, ty, &declarators[left], at)?;
+    }
+    Ok(at)
+}
+
+/// The code of an object of file scope, which is 0 where it has no initialiser.
+fn flat_global(
+    context: &Context<'_>,
+    nodes: &mut Nodes,
+    ty: Ty,
+    declarator: &Declarator,
+    next: usize,
+) -> Result<usize, NoMemory>
+    requires { next < length nodes.old }
+    ensures { IfOk result (λ at. Grown nodes.old nodes.new at
+        (global_plan context.now ty declarator.now.slot declarator.now.shape (initial declarator.now.start)
+        (plan_at nodes.old next))) }
+{
+    match &declarator.start {
+        Start::Bare => {
+            let slot = declarator.slot;
+            let count = cell_count(declarator.shape, 0);
+            let clear = nodes.push(Node::Clear {
+                slot,
+                from: 0,
+                count,
+                next,
+            })?;
+            nodes.push(Node::Create {
+                ty,
+                slot,
+                count,
+                next: clear,
+            })
+        }
+        Start::One(_) => flat_object(context, nodes, ty, declarator, next),
+        Start::List(_) => flat_object(context, nodes, ty, declarator, next),
+    }
+}
+
+/// The code of a declaration at file scope.
+pub fn flat_globals(
+    context: &Context<'_>,
+    nodes: &mut Nodes,
+    ty: Ty,
+    declarators: &[Declarator],
+    next: usize,
+) -> Result<usize, NoMemory>
+    requires { next < length nodes.old }
+    ensures { IfOk result (λ at. Grown nodes.old nodes.new at
+        (globals_plan context.now ty (variables declarators.now) (plan_at nodes.old next))) }
+{
+    let mut at = next;
+    let mut left = declarators.len();
+    'each: while left > 0 {
+        left -= 1;
+        at = flat_global(context, nodes, ty, &declarators[left], at)?;
+    }
+    Ok(at)
+}
