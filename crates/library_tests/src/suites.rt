@@ -277,12 +277,7 @@ fn suites_keep_to_bounds(rt: HostRuntime) -> Result<(), Fail> {
     for (shape, count, refusal) in rows {
         let text = shape.text(rt.alloc(), count)?;
         let found = read_suite(rt.alloc(), text.as_bytes()).err();
-        assert_eq!(rt;
-            found,
-            refusal,
-            "{count} of {} after {}",
-            shape.opening, shape.before
-        );
+        assert_eq!(rt; found, refusal, "{count} times after {}", shape.before);
     }
     Ok(())
 }

@@ -81,7 +81,8 @@ fn cuts_words_and_marks(rt: HostRuntime) -> Result<(), Fail> {
             (" \t\n\x0b\x0c\r", ""),
             (
                 "int main(void){return 0;}",
-                "Int@0-3 name:main@4-8 OpenParen@8-9 Void@9-13 CloseParen@13-14 OpenBrace@14-15 Return@15-21 0:0@22-23 Semicolon@23-24 CloseBrace@24-25",
+                "Int@0-3 name:main@4-8 OpenParen@8-9 Void@9-13 CloseParen@13-14 \
+                 OpenBrace@14-15 Return@15-21 0:0@22-23 Semicolon@23-24 CloseBrace@24-25",
             ),
             (
                 "_x9 whilex While",
