@@ -43,7 +43,8 @@ mutual
         → Within from to s → TreeIn s.from m place → TreeIn m s.to e
         → TreeIn from to (tree.assign f place e s)
     bump : {from to : ℕ} {before up : Bool} {place : Tree} {s : Span}
-        → Within from to s → TreeIn s.from s.to place → TreeIn from to (tree.bump before up place s)
+        → Within from to s → TreeIn s.from s.to place
+        → TreeIn from to (tree.bump before up place s)
     comma : {from to m : ℕ} {l r : Tree} {s : Span}
         → Within from to s → TreeIn s.from m l → TreeIn m s.to r
         → TreeIn from to (tree.comma l r s)

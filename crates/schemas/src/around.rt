@@ -16,7 +16,8 @@ const MOST: usize = 8;
 /// Adds the variable, if it is a number and there is room for it.
 fn add_variable(alloc: Global, found: &mut Vec<Atom>, v: &Visible) -> Result<(), NoMemory>
     ensures { OnOk result (found.new.items
-        ≡ found.old.items ++ map variable_atom (take (8 - length found.old.items) (numbers_of (v.now ∷ [])))) }
+        ≡ found.old.items
+        ++ map variable_atom (take (8 - length found.old.items) (numbers_of (v.now ∷ [])))) }
 {
     if v.array {
         return Ok(());

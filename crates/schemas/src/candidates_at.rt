@@ -44,7 +44,8 @@ fn is_among(new: &Option<Expr>, seen: &[Expr]) -> bool
 
 /// Adds the expression, if it is there.
 fn add_made(seen: &mut Vec<Expr>, new: Option<Expr>) -> Result<(), NoMemory>
-    ensures { OnOk result (trees seen.new.items ≡ and_made (trees seen.old.items) (option_map tree new)) }
+    ensures { OnOk result (trees seen.new.items
+        ≡ and_made (trees seen.old.items) (option_map tree new)) }
 {
     match new {
         None => Ok(()),
@@ -62,7 +63,8 @@ fn add_all_made(
     seen: &mut Vec<Expr>,
     edits: &[Edit],
 ) -> Result<(), NoMemory>
-    ensures { OnOk result (trees seen.new.items ≡ and_all_made (lent part.now) (trees seen.old.items) edits.now) }
+    ensures { OnOk result (trees seen.new.items
+        ≡ and_all_made (lent part.now) (trees seen.old.items) edits.now) }
 {
     for edit in edits {
         let new = made(alloc, part, edit)?;
@@ -78,7 +80,8 @@ fn new_edits(
     seen: &mut Vec<Expr>,
     edits: &[Edit],
 ) -> Result<Vec<Edit>, NoMemory>
-    ensures { IfOk result (λ r. r.items ≡ new_edits_of (lent part.now) (trees seen.old.items) edits.now) }
+    ensures { IfOk result (λ r. r.items
+        ≡ new_edits_of (lent part.now) (trees seen.old.items) edits.now) }
 {
     let mut kept = Vec::new(alloc);
     for edit in edits {
@@ -116,7 +119,8 @@ fn before(
 ) -> Result<Vec<Expr>, NoMemory>
     requires { 0 < cost }
     ensures { IfOk result (λ r. trees r.items
-        ≡ and_all_made (lent part.now) (old_of (lent part.now)) (edits_upto kind atoms.now (lent part.now) (cost - 1))) }
+        ≡ and_all_made (lent part.now) (old_of (lent part.now))
+        (edits_upto kind atoms.now (lent part.now) (cost - 1))) }
 {
     let mut seen = old(alloc, part)?;
     for lower in 1..cost {

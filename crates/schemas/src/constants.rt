@@ -36,7 +36,8 @@ fn add_constant(
     value: i64,
     word: &Text,
 ) -> Result<(), NoMemory>
-    ensures { OnOk result (found.new.items ≡ with_constant found.old.items (record { value = value; word = word.now })) }
+    ensures { OnOk result (found.new.items
+        ≡ with_constant found.old.items (record { value = value; word = word.now })) }
 {
     if is_known(found, value) {
         return Ok(());
@@ -54,7 +55,8 @@ fn add_constant(
 /// The constants in the expression.
 #[cycle(add_expr)]
 fn add_expr(alloc: Global, found: &mut Vec<Atom>, e: &Expr) -> Result<(), NoMemory>
-    ensures { OnOk result (found.new.items ≡ with_constants found.old.items (constants_in (tree e.now))) }
+    ensures { OnOk result (found.new.items
+        ≡ with_constants found.old.items (constants_in (tree e.now))) }
 {
     match &e.node {
         ExprNode::Const { value, word } => add_constant(alloc, found, *value, word),
@@ -82,7 +84,8 @@ fn add_expr(alloc: Global, found: &mut Vec<Atom>, e: &Expr) -> Result<(), NoMemo
 /// The constants in the arguments of a call.
 #[cycle(add_expr)]
 fn add_args(alloc: Global, found: &mut Vec<Atom>, args: &[Arg]) -> Result<(), NoMemory>
-    ensures { OnOk result (found.new.items ≡ with_constants found.old.items (constants_in_args (args_of args.now))) }
+    ensures { OnOk result (found.new.items
+        ≡ with_constants found.old.items (constants_in_args (args_of args.now))) }
 {
     for arg in args {
         add_arg(alloc, found, arg)?;
@@ -93,7 +96,8 @@ fn add_args(alloc: Global, found: &mut Vec<Atom>, args: &[Arg]) -> Result<(), No
 /// The constants in an argument.
 #[cycle(add_expr)]
 fn add_arg(alloc: Global, found: &mut Vec<Atom>, arg: &Arg) -> Result<(), NoMemory>
-    ensures { OnOk result ((rest : Args) → with_constants found.old.items (constants_in_args (with_arg arg.now rest))
+    ensures { OnOk result ((rest : Args) →
+        with_constants found.old.items (constants_in_args (with_arg arg.now rest))
         ≡ with_constants found.new.items (constants_in_args rest)) }
 {
     match arg {
@@ -104,7 +108,8 @@ fn add_arg(alloc: Global, found: &mut Vec<Atom>, arg: &Arg) -> Result<(), NoMemo
 
 /// The constants in an expression that may be absent.
 fn add_option(alloc: Global, found: &mut Vec<Atom>, e: &Option<Expr>) -> Result<(), NoMemory>
-    ensures { OnOk result (found.new.items ≡ with_constants found.old.items (constants_in_option (tree_option e.now))) }
+    ensures { OnOk result (found.new.items
+        ≡ with_constants found.old.items (constants_in_option (tree_option e.now))) }
 {
     match e {
         None => Ok(()),
@@ -114,7 +119,8 @@ fn add_option(alloc: Global, found: &mut Vec<Atom>, e: &Option<Expr>) -> Result<
 
 /// The constants in expressions.
 fn add_exprs(alloc: Global, found: &mut Vec<Atom>, es: &[Expr]) -> Result<(), NoMemory>
-    ensures { OnOk result (found.new.items ≡ with_constants found.old.items (flat_map constants_in (trees es.now))) }
+    ensures { OnOk result (found.new.items
+        ≡ with_constants found.old.items (flat_map constants_in (trees es.now))) }
 {
     for e in es {
         add_expr(alloc, found, e)?;
@@ -124,7 +130,8 @@ fn add_exprs(alloc: Global, found: &mut Vec<Atom>, es: &[Expr]) -> Result<(), No
 
 /// The constants in an initialiser.
 fn add_start(alloc: Global, found: &mut Vec<Atom>, start: &Start) -> Result<(), NoMemory>
-    ensures { OnOk result (found.new.items ≡ with_constants found.old.items (constants_in_initial (initial start.now))) }
+    ensures { OnOk result (found.new.items
+        ≡ with_constants found.old.items (constants_in_initial (initial start.now))) }
 {
     match start {
         Start::Bare => Ok(()),
@@ -150,7 +157,8 @@ fn add_declarators(
 
 /// The constants in the first clause of a `for`.
 fn add_init(alloc: Global, found: &mut Vec<Atom>, init: &Init) -> Result<(), NoMemory>
-    ensures { OnOk result (found.new.items ≡ with_constants found.old.items (constants_in_first (first init.now))) }
+    ensures { OnOk result (found.new.items
+        ≡ with_constants found.old.items (constants_in_first (first init.now))) }
 {
     match init {
         Init::Empty => Ok(()),
@@ -162,7 +170,8 @@ fn add_init(alloc: Global, found: &mut Vec<Atom>, init: &Init) -> Result<(), NoM
 /// The constants in a statement.
 #[cycle(add_stmt)]
 fn add_stmt(alloc: Global, found: &mut Vec<Atom>, st: &Stmt) -> Result<(), NoMemory>
-    ensures { OnOk result (found.new.items ≡ with_constants found.old.items (constants_in_code (code st.now))) }
+    ensures { OnOk result (found.new.items
+        ≡ with_constants found.old.items (constants_in_code (code st.now))) }
 {
     match &st.node {
         StmtNode::Empty | StmtNode::Break | StmtNode::Continue => Ok(()),
@@ -202,7 +211,8 @@ fn add_stmt(alloc: Global, found: &mut Vec<Atom>, st: &Stmt) -> Result<(), NoMem
 /// The constants in the items of a block.
 #[cycle(add_stmt)]
 fn add_items(alloc: Global, found: &mut Vec<Atom>, items: &[Item]) -> Result<(), NoMemory>
-    ensures { OnOk result (found.new.items ≡ with_constants found.old.items (constants_in_body (body_of items.now))) }
+    ensures { OnOk result (found.new.items
+        ≡ with_constants found.old.items (constants_in_body (body_of items.now))) }
 {
     for item in items {
         add_item(alloc, found, item)?;
@@ -213,7 +223,8 @@ fn add_items(alloc: Global, found: &mut Vec<Atom>, items: &[Item]) -> Result<(),
 /// The constants in an item.
 #[cycle(add_stmt)]
 fn add_item(alloc: Global, found: &mut Vec<Atom>, item: &Item) -> Result<(), NoMemory>
-    ensures { OnOk result ((rest : Body) → with_constants found.old.items (constants_in_body (with_item item.now rest))
+    ensures { OnOk result ((rest : Body) →
+        with_constants found.old.items (constants_in_body (with_item item.now rest))
         ≡ with_constants found.new.items (constants_in_body rest)) }
 {
     match item {
@@ -228,7 +239,8 @@ fn add_definition(
     found: &mut Vec<Atom>,
     body: &Option<Vec<Item>>,
 ) -> Result<(), NoMemory>
-    ensures { OnOk result (found.new.items ≡ with_constants found.old.items (constants_in_definition (body_option body.now))) }
+    ensures { OnOk result (found.new.items
+        ≡ with_constants found.old.items (constants_in_definition (body_option body.now))) }
 {
     match body {
         None => Ok(()),
@@ -250,7 +262,8 @@ fn add_external(
     external: &External,
     place: u32,
 ) -> Result<(), NoMemory>
-    ensures { OnOk result (found.new.items ≡ with_constants found.old.items (constants_around place (outer external.now))) }
+    ensures { OnOk result (found.new.items
+        ≡ with_constants found.old.items (constants_around place (outer external.now))) }
 {
     match external {
         External::Vars(..) => Ok(()),
@@ -297,7 +310,8 @@ pub fn one(alloc: Global) -> Result<Atom, NoMemory>
 /// 0 and 1, and the first four further values of the constants in the body of the function whose text has the place.
 pub fn numbers_at(alloc: Global, program: &Program, place: u32) -> Result<Vec<Atom>, NoMemory>
     ensures { IfOk result (λ r. r.items
-        ≡ zero ∷ one ∷ take 4 (further (zero ∷ one ∷ []) (constants_at place (tree_program program.now)))) }
+        ≡ zero ∷ one
+        ∷ take 4 (further (zero ∷ one ∷ []) (constants_at place (tree_program program.now)))) }
 {
     let mut found = Vec::new(alloc);
     found.push(digit(alloc, 0, b'0')?)?;

@@ -101,7 +101,8 @@ fn side_by_one(alloc: Global, e: &Expr, up: bool) -> Result<Expr, NoMemory>
 #[tactic(auto, using(crate::proofs::SpanLemmas::span_of_tree))]
 fn joined(alloc: Global, e: &Expr, op: BinOp, bound: &Bound) -> Result<Expr, NoMemory>
     ensures { IfOk result (λ r. tree r
-        ≡ binary_tree op (tree e.now) (bound_tree bound.now (span_of (tree e.now))) (span_of (tree e.now))) }
+        ≡ binary_tree op (tree e.now) (bound_tree bound.now (span_of (tree e.now)))
+        (span_of (tree e.now))) }
 {
     let right = bound_expr(alloc, bound, e.span)?;
     build::binary(alloc, op, copy_expr(alloc, e)?, right, e.span)

@@ -54,7 +54,8 @@ fn passed(e: &Expr, k: u32) -> Option<u32>
 
 /// The constant or name, or an atom in its place.
 fn leaf(alloc: Global, e: &Expr, k: u32, atom: &Atom) -> Result<Expr, NoMemory>
-    ensures { IfOk result (λ r. tree r ≡ (if nat_eq k 0 then atom_tree atom.now e.now.span else tree e.now)) }
+    ensures { IfOk result (λ r. tree r
+        ≡ (if nat_eq k 0 then atom_tree atom.now e.now.span else tree e.now)) }
 {
     if k == 0 {
         return atom_expr(alloc, atom, e.span);

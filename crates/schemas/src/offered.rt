@@ -70,7 +70,8 @@ fn operators(alloc: Global, new: &[BinOp]) -> Result<Vec<Edit>, NoMemory>
 /// The edits of cost 1 of a condition. Where it has no call, assignment or bump: of a comparison the five others, of
 /// `&&` and of `||` the other one; and else none.
 fn condition_operators(alloc: Global, e: &Expr) -> Result<Vec<Edit>, NoMemory>
-    ensures { IfOk result (λ edits. edits.items ≡ if_pure (tree e.now) (operator_edits_of others (tree e.now))) }
+    ensures { IfOk result (λ edits. edits.items
+        ≡ if_pure (tree e.now) (operator_edits_of others (tree e.now))) }
 {
     if !is_pure(e) {
         return Ok(Vec::new(alloc));
@@ -83,7 +84,8 @@ fn condition_operators(alloc: Global, e: &Expr) -> Result<Vec<Edit>, NoMemory>
 
 /// The edits of cost 1 of a right side.
 fn right_side_operators(alloc: Global, e: &Expr) -> Result<Vec<Edit>, NoMemory>
-    ensures { IfOk result (λ edits. edits.items ≡ if_pure (tree e.now) (operator_edits_of other_sums (tree e.now))) }
+    ensures { IfOk result (λ edits. edits.items
+        ≡ if_pure (tree e.now) (operator_edits_of other_sums (tree e.now))) }
 {
     if !is_pure(e) {
         return Ok(Vec::new(alloc));
