@@ -1,6 +1,6 @@
 -- The kinds of the faults of declarations and statements depend on no span, no slot and no spelling
 -- of a constant.
-use Rattle.std.proofs.Common.{◌≡◌, Bool, true, not, ◌||◌, ◌&&◌, int_lt, pos, List, [], ◌∷◌, ◌++◌, map, Option, Some, None, refl, sym, ap, ap₂, ◌∙◌}
+use Rattle.std.proofs.Common.{◌≡◌, ℤ, Bool, true, not, ◌||◌, ◌&&◌, int_lt, pos, List, [], ◌∷◌, ◌++◌, map, Option, Some, None, refl, sym, ap, ap₂, ◌∙◌}
 use Rattle.std.proofs.lemmas.List.{map-append, length-map}
 use Rattle.c_tree.specs.declared.place.Span.{Span}
 use Rattle.c_tree.specs.declared.stmt.Shape.{Shape}
@@ -13,7 +13,7 @@ use Rattle.c_types.specs.declared.scope.Storage.{Storage}
 use Rattle.c_types.specs.declared.scope.Storage.TheVariants.{Automatic}
 use Rattle.c_types.specs.Least.{fault_if}
 use Rattle.c_types.specs.Scopes.{is_declared}
-use Rattle.c_types.specs.Statements.{variable_declaration, declared, elements, is_list, length_faults, initial_faults, number_option, void_option, variable_faults, variables_faults, first_declared, first_faults, clause_faults, return_faults, code_faults, body_faults}
+use Rattle.c_types.specs.Statements.{variable_declaration, declared, elements, is_list, list_faults, length_faults, initial_faults, number_option, void_option, variable_faults, variables_faults, first_declared, first_faults, clause_faults, return_faults, code_faults, body_faults}
 use Rattle.bare_laws.proofs.SameKinds.{SameKinds, none, one, test, both, but_equal}
 use Rattle.bare_laws.proofs.Scopes.{slotless, declared-same}
 use Rattle.bare_laws.proofs.Expressions.{as_number-alike, as_void-alike, faults-alike, initial-alike, number_option-alike, void_option-alike, constant_faults-alike}
@@ -30,17 +30,22 @@ elements-same bare_start = refl
 elements-same (one_start e) = refl
 elements-same (list_start es) = length-map es bare
 
+list_faults-alike : (n : ℤ) (start : Initial) (s t : Span)
+    → SameKinds (list_faults n (bare_initial start) s) (list_faults n start t)
+list_faults-alike n start s t =
+    but_equal
+    (ap₂ (λ b k. fault_if (b && int_lt n (pos k)) WrongCount s) (list-same start) (elements-same start))
+    (test (is_list start && int_lt n (pos (elements start))) WrongCount s t)
+
 length_faults-alike : (shape : Shape) (start : Initial) (s t : Span)
     → SameKinds (length_faults shape (bare_initial start) s) (length_faults shape start t)
-length_faults-alike ScalarShape start s t = none
+length_faults-alike ScalarShape start s t = list_faults-alike (pos 1) start s t
 length_faults-alike (ArrayShape None) start s t =
     but_equal (ap (λ b. fault_if (not b) BadArrayLength s) (list-same start))
     (test (not (is_list start)) BadArrayLength s t)
 length_faults-alike (ArrayShape (Some n)) start s t =
     both (test (int_lt n (pos 1) || int_lt (pos 1048576) n) BadArrayLength s t)
-    (but_equal
-    (ap₂ (λ b k. fault_if (b && int_lt n (pos k)) WrongCount s) (list-same start) (elements-same start))
-    (test (is_list start && int_lt n (pos (elements start))) WrongCount s t))
+    (list_faults-alike n start s t)
 
 -- scopes with one more declaration
 more-same : (d : Declaration) (here around : List Declaration)

@@ -224,7 +224,7 @@ module _ (end : ℕ) where
   place_upto ds (tree.hole_after e) le = one NotPlace _ le
 
   length_upto : (shape : Shape) (start : Initial) (s : Span) → s.from ≤ end → Upto end (length_faults shape start s)
-  length_upto Number_alone start s le = none
+  length_upto Number_alone start s le = one_if _ WrongCount s le
   length_upto (Array_of None) start s le = one_if _ BadArrayLength s le
   length_upto (Array_of (Some n)) start s le = both (one_if _ BadArrayLength s le) (one_if _ WrongCount s le)
 

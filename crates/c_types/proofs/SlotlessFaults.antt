@@ -1,5 +1,5 @@
 -- The faults of a program don't depend on its slots.
-use Rattle.std.proofs.Common.{◌≡◌, ℕ, suc, Bool, true, false, not, if◌then◌else◌, List, [], ◌∷◌, ◌++◌, map, length, Option, Some, None, is_none, is_some, option_map, refl, sym, ap, ap₂, ◌∙◌, ◌||◌, ◌&&◌, nat_eq, int_lt, pos, codes}
+use Rattle.std.proofs.Common.{◌≡◌, ℕ, ℤ, suc, Bool, true, false, not, if◌then◌else◌, List, [], ◌∷◌, ◌++◌, map, length, Option, Some, None, is_none, is_some, option_map, refl, sym, ap, ap₂, ◌∙◌, ◌||◌, ◌&&◌, nat_eq, int_lt, pos, codes}
 use Rattle.std.specs.Str.{bytes_eq}
 use Rattle.std.proofs.lemmas.List.{map-append, length-map}
 use Rattle.c_tree.specs.declared.place.Span.{Span}
@@ -28,7 +28,7 @@ use Rattle.c_types.specs.Least.{fault, fault_if}
 use Rattle.c_types.specs.Library.{library}
 use Rattle.c_types.specs.Programs.{is_defined, param_type, param_declaration, function_declaration, params_declared, params_faults, same_result, same_params, redeclared_faults, name_faults, definition_faults, function_faults, outers_faults, has_no_params, is_main, has_main, main_faults, program_faults}
 use Rattle.c_types.specs.Scopes.{denoted, is_declared}
-use Rattle.c_types.specs.Statements.{is_array, variable_declaration, declared, elements, is_list, length_faults, as_numbers, initial_faults, number_option, void_option, variable_faults, variables_faults, first_declared, first_faults, return_faults, code_faults, body_faults}
+use Rattle.c_types.specs.Statements.{is_array, variable_declaration, declared, elements, is_list, list_faults, length_faults, as_numbers, initial_faults, number_option, void_option, variable_faults, variables_faults, first_declared, first_faults, return_faults, code_faults, body_faults}
 use Rattle.c_types.specs.Unresolved.{unresolved_tree, unresolved_args, unresolved_option, unresolved_initial, unresolved_variable, unresolved_first, unresolved_code, unresolved_body, unresolved_definition, unresolved_param, unresolved_function, unresolved_outer, unresolved}
 
 -- what a name denotes, without a slot
@@ -337,11 +337,15 @@ elements-same bare_start = refl
 elements-same (one_start e) = refl
 elements-same (list_start es) = length-map es unresolved_tree
 
+list_faults-same : (n : ℤ) (start : Initial) (s : Span) → list_faults n (unresolved_initial start) s ≡ list_faults n start s
+list_faults-same n start s =
+    ap₂ (λ b k. fault_if (b && int_lt n (pos k)) WrongCount s) (list-same start) (elements-same start)
+
 length_faults-same : (shape : Shape) (start : Initial) (s : Span) → length_faults shape (unresolved_initial start) s ≡ length_faults shape start s
-length_faults-same ScalarShape start s = refl
+length_faults-same ScalarShape start s = list_faults-same (pos 1) start s
 length_faults-same (ArrayShape None) start s = ap (λ b. fault_if (not b) BadArrayLength s) (list-same start)
 length_faults-same (ArrayShape (Some n)) start s =
-    ap₂ (λ b k. fault_if (int_lt n (pos 1) || int_lt (pos 1048576) n) BadArrayLength s ++ fault_if (b && int_lt n (pos k)) WrongCount s) (list-same start) (elements-same start)
+    ap (λ more. fault_if (int_lt n (pos 1) || int_lt (pos 1048576) n) BadArrayLength s ++ more) (list_faults-same n start s)
 
 -- scopes with one more declaration
 more-same : (d : Declaration) (here around : List Declaration) → slotless d ∷ (map slotless here ++ map slotless around) ≡ map slotless (d ∷ (here ++ around))

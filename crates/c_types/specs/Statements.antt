@@ -1,5 +1,5 @@
 -- The faults of declarations (C11 6.7) and statements (C11 6.8).
-use Rattle.std.specs.Prelude.{ℕ, Bool, true, false, not, ◌||◌, ◌&&◌, pos, int_lt, List, [], ◌∷◌, ◌++◌, length, Option, Some, None}
+use Rattle.std.specs.Prelude.{ℕ, ℤ, Bool, true, false, not, ◌||◌, ◌&&◌, pos, int_lt, List, [], ◌∷◌, ◌++◌, length, Option, Some, None}
 use Rattle.c_tree.specs.declared.place.Span.{Span}
 use Rattle.c_tree.specs.declared.stmt.Shape.{Shape}
 use Rattle.c_tree.specs.declared.stmt.Shape.TheVariants.{Scalar, Array}
@@ -43,14 +43,18 @@ is_list bare_start = false
 is_list (one_start e) = false
 is_list (list_start es) = true
 
+-- a list has no more initialisers than there are elements (C11 6.7.9p2)
+abbrev pub list_faults : ℤ → Initial → Span → List Fault
+list_faults n start s = fault_if (is_list start && int_lt n (pos (elements start))) WrongCount s
+
 -- The length of an array: 1 to 1,048,576 elements (C11 6.7.6.2p1; the greater bound is f1x's own), and
--- no fewer than its list has (C11 6.7.9p2). An array without a written length has a list (C11 6.7.9p22).
+-- no fewer than its list has. An array without a written length has a list (C11 6.7.9p22). What is no
+-- array has one element.
 abbrev pub length_faults : Shape → Initial → Span → List Fault
-length_faults Scalar start s = []
+length_faults Scalar start s = list_faults (pos 1) start s
 length_faults (Array None) start s = fault_if (not (is_list start)) BadArrayLength s
 length_faults (Array (Some n)) start s =
-    fault_if (int_lt n (pos 1) || int_lt (pos 1048576) n) BadArrayLength s
-    ++ fault_if (is_list start && int_lt n (pos (elements start))) WrongCount s
+    fault_if (int_lt n (pos 1) || int_lt (pos 1048576) n) BadArrayLength s ++ list_faults n start s
 
 module _ (ds : List Declaration) where
   -- the faults of expressions that are each a number

@@ -5,7 +5,7 @@ ghost use Rattle.c_tree.specs.declared.stmt.Shape.TheVariants.{Array};
 ghost use Rattle.c_tree.specs.Views.{trees, initial, variable, variables};
 ghost use Rattle.c_types.specs.Least.{least};
 ghost use Rattle.c_types.specs.Scopes.{here, outside, in_scope};
-ghost use Rattle.c_types.specs.Statements.{variable_declaration, declared, elements, is_list, length_faults, as_numbers, initial_faults, variable_faults, variables_faults};
+ghost use Rattle.c_types.specs.Statements.{variable_declaration, declared, elements, is_list, list_faults, length_faults, as_numbers, initial_faults, variable_faults, variables_faults};
 
 use crate::constant::constant_faults;
 use crate::declared::variable_declaration;
@@ -36,12 +36,12 @@ fn is_list(start: &Start) -> bool
     }
 }
 
-/// The length of an array.
+/// The length of what is declared, and of its list.
 fn length_faults(shape: Shape, start: &Start, span: Span) -> First
     ensures { result.fault ≡ least (length_faults shape (initial start.now) span) }
 {
     match shape {
-        Shape::Scalar => First::none(),
+        Shape::Scalar => list_faults(1, start, span),
         Shape::Array(length) => array_faults(length, start, span),
     }
 }
@@ -62,9 +62,16 @@ fn written_faults(n: i64, start: &Start, span: Span) -> First
     ensures { result.fault ≡ least (length_faults (Array (Some n)) (initial start.now) span) }
 {
     let bad = First::of_if(is_bad_length(n), FaultKind::BadArrayLength, span);
+    bad.and(list_faults(n, start, span))
+}
+
+/// The length of a list, where there are so many elements.
+fn list_faults(n: i64, start: &Start, span: Span) -> First
+    ensures { result.fault ≡ least (list_faults n (initial start.now) span) }
+{
     let list = is_list(start);
     let below = is_below(n, elements(start));
-    bad.and(First::of_if(list & below, FaultKind::WrongCount, span))
+    First::of_if(list & below, FaultKind::WrongCount, span)
 }
 
 /// Whether no array may have that length.
