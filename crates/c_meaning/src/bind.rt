@@ -25,7 +25,8 @@ pub fn slot_of(place: &Expr) -> Slot
 
 /// The definition of a function.
 pub fn definition<'a>(externals: &'a [External], word: &[u8]) -> Option<&'a Func>
-    ensures { option_map (λ f. function_tree f.now) result ≡ definition_in word.now (map outer externals.now) }
+    ensures { option_map (λ f. function_tree f.now) result
+        ≡ definition_in word.now (map outer externals.now) }
 {
     for external in externals {
         if let External::Func(function) = external {

@@ -2,7 +2,7 @@ pub mod Runs
 pub mod Right
 pub mod Places
 pub mod Kept
-pub mod Nowhere
+pub mod NoHole
 pub mod Heads
 pub mod Entries
 pub mod Lists

@@ -10,6 +10,6 @@ pub struct Context<'a> {
     pub alloc: Global,
     /// The program.
     pub externals: &'a [External],
-    /// Where the hole is.
-    pub hole: Loc,
+    /// Where the hole is, if there is one.
+    pub hole: Option<Loc>,
 }

@@ -6,13 +6,22 @@ ghost use Rattle.c_tree.specs.Views.{tree, trees, initial, variables};
 ghost use Rattle.c_meaning.specs.Meaning.{cell_count as count_of};
 ghost use Rattle.interp_code.specs.Plan.{push, keep, forget};
 ghost use Rattle.interp_code.specs.Flat.{plan_at, Grown};
-ghost use Rattle.interp_code.specs.Holed.{value_plan, list_plan, object_plan, local_plan, locals_plan, global_plan, globals_plan};
+ghost use Rattle.interp_code.specs.Holed.{value_plan, list_plan, object_plan, declarator_plan, declaration_plan};
 
 use crate::code::Nodes;
 use crate::context::Context;
 use crate::expressions::{flat_right, flat_value};
 use crate::node::Node;
 use c_tree::{Declarator, Expr, NoMemory, Shape, Slot, Start, Ty};
+
+/// Where a declaration stands.
+#[derive(Clone, Copy, Debug)]
+pub enum Scope {
+    /// At file scope.
+    File,
+    /// In a function.
+    Function,
+}
 
 /// The number of cells of a variable, where so many initialisers are listed.
 fn cell_count(shape: Shape, listed: usize) -> usize
@@ -89,8 +98,8 @@ fn flat_object(
 ) -> Result<usize, NoMemory>
     requires { next < length nodes.old }
     ensures { IfOk result (λ at. Grown nodes.old nodes.new at
-        (object_plan context.now ty declarator.now.slot declarator.now.shape (initial declarator.now.start)
-        (plan_at nodes.old next))) }
+        (object_plan context.now ty declarator.now.slot declarator.now.shape
+        (initial declarator.now.start) (plan_at nodes.old next))) }
 {
     let slot = declarator.slot;
     match &declarator.start {
@@ -118,7 +127,7 @@ fn flat_object(
     }
 }
 
-/// The code of a new object with a list of initialisers, behind which its cells are 0.
+/// The code of a new object with a list of initialisers, after which its cells are 0.
 fn flat_listed(
     context: &Context<'_>,
     nodes: &mut Nodes,
@@ -129,8 +138,8 @@ fn flat_listed(
 ) -> Result<usize, NoMemory>
     requires { next < length nodes.old }
     ensures { IfOk result (λ at. Grown nodes.old nodes.new at
-        (object_plan context.now ty declarator.now.slot declarator.now.shape (list_start (trees elements.now))
-        (plan_at nodes.old next))) }
+        (object_plan context.now ty declarator.now.slot declarator.now.shape
+        (list_start (trees elements.now)) (plan_at nodes.old next))) }
 {
     let slot = declarator.slot;
     let listed = elements.len();
@@ -150,100 +159,52 @@ fn flat_listed(
     })
 }
 
-/// The code of a declarator in a function, which takes a unit where it has an initialiser.
-fn flat_local(
+/// The code of a declarator. In a function an initialiser takes a unit; at file scope an object without
+/// one is 0.
+fn flat_declarator(
     context: &Context<'_>,
     nodes: &mut Nodes,
+    scope: Scope,
     ty: Ty,
     declarator: &Declarator,
     next: usize,
 ) -> Result<usize, NoMemory>
     requires { next < length nodes.old }
     ensures { IfOk result (λ at. Grown nodes.old nodes.new at
-        (local_plan context.now ty declarator.now.slot declarator.now.shape (initial declarator.now.start)
-        (plan_at nodes.old next))) }
+        (declarator_plan context.now scope ty declarator.now.slot declarator.now.shape
+        (initial declarator.now.start) (plan_at nodes.old next))) }
 {
-    let object = flat_object(context, nodes, ty, declarator, next)?;
-    match &declarator.start {
-        Start::Bare => Ok(object),
-        Start::One(_) => nodes.push(Node::Spend { next: object }),
-        Start::List(_) => nodes.push(Node::Spend { next: object }),
-    }
-}
-
-/// The code of a declaration in a function.
-pub fn flat_locals(
-    context: &Context<'_>,
-    nodes: &mut Nodes,
-    ty: Ty,
-    declarators: &[Declarator],
-    next: usize,
-) -> Result<usize, NoMemory>
-    requires { next < length nodes.old }
-    ensures { IfOk result (λ at. Grown nodes.old nodes.new at
-        (locals_plan context.now ty (variables declarators.now) (plan_at nodes.old next))) }
-{
-    let mut at = next;
-    let mut left = declarators.len();
-    'each: while left > 0 {
-        left -= 1;
-        at = flat_local(context, nodes, ty, &declarators[left], at)?;
-    }
-    Ok(at)
-}
-
-/// The code of an object of file scope, which is 0 where it has no initialiser.
-fn flat_global(
-    context: &Context<'_>,
-    nodes: &mut Nodes,
-    ty: Ty,
-    declarator: &Declarator,
-    next: usize,
-) -> Result<usize, NoMemory>
-    requires { next < length nodes.old }
-    ensures { IfOk result (λ at. Grown nodes.old nodes.new at
-        (global_plan context.now ty declarator.now.slot declarator.now.shape (initial declarator.now.start)
-        (plan_at nodes.old next))) }
-{
-    match &declarator.start {
-        Start::Bare => {
-            let slot = declarator.slot;
-            let count = cell_count(declarator.shape, 0);
-            let clear = nodes.push(Node::Clear {
-                slot,
-                from: 0,
-                count,
-                next,
-            })?;
-            nodes.push(Node::Create {
-                ty,
-                slot,
-                count,
-                next: clear,
-            })
+    match (scope, &declarator.start) {
+        (Scope::File, Start::Bare) => flat_listed(context, nodes, ty, declarator, &[], next),
+        (Scope::File, _) | (Scope::Function, Start::Bare) => {
+            flat_object(context, nodes, ty, declarator, next)
         }
-        Start::One(_) => flat_object(context, nodes, ty, declarator, next),
-        Start::List(_) => flat_object(context, nodes, ty, declarator, next),
+        (Scope::Function, _) => {
+            let object = flat_object(context, nodes, ty, declarator, next)?;
+            nodes.push(Node::Spend { next: object })
+        }
     }
 }
 
-/// The code of a declaration at file scope.
-pub fn flat_globals(
+/// The code of a declaration.
+pub fn flat_declaration(
     context: &Context<'_>,
     nodes: &mut Nodes,
+    scope: Scope,
     ty: Ty,
     declarators: &[Declarator],
     next: usize,
 ) -> Result<usize, NoMemory>
     requires { next < length nodes.old }
     ensures { IfOk result (λ at. Grown nodes.old nodes.new at
-        (globals_plan context.now ty (variables declarators.now) (plan_at nodes.old next))) }
+        (declaration_plan context.now scope ty (variables declarators.now)
+        (plan_at nodes.old next))) }
 {
     let mut at = next;
     let mut left = declarators.len();
     'each: while left > 0 {
         left -= 1;
-        at = flat_global(context, nodes, ty, &declarators[left], at)?;
+        at = flat_declarator(context, nodes, scope, ty, &declarators[left], at)?;
     }
     Ok(at)
 }

@@ -3,7 +3,7 @@
 ghost use Rattle.std.specs.Prelude.{◌<◌, pos, length, IfOk};
 ghost use Rattle.c_tree.specs.Tree.{binary, choice, assign, bump, no_args, no_span};
 ghost use Rattle.c_tree.specs.Views.{tree, args_of, with_arg};
-ghost use Rattle.interp_code.specs.Plan.{push, fetch, forget};
+ghost use Rattle.interp_code.specs.Plan.{push, fetch};
 ghost use Rattle.interp_code.specs.Compile.{deciding};
 ghost use Rattle.interp_code.specs.Flat.{plan_at, Grown};
 ghost use Rattle.interp_code.specs.Holed.{value_plan, drop_plan, index_plan, args_plan, call_plan, right_plan, condition_plan};
@@ -148,7 +148,8 @@ fn flat_assign(
     }
 }
 
-/// The code of `++` where `up`, else of `--`; it stands before its place where `before`, else after it.
+/// The code of `++` where `up`, else of `--`; it stands before its place where `before`, else after
+/// it.
 #[cycle(expression)]
 fn flat_bump(
     context: &Context<'_>,
@@ -173,7 +174,7 @@ fn flat_bump(
     flat_index(context, nodes, place, step)
 }
 
-/// The code of an expression whose value isn't wanted.
+/// The code of an expression whose value isn't wanted: a call puts none on the stack, and any other is dropped.
 #[cycle(expression)]
 pub fn flat_drop(
     context: &Context<'_>,
@@ -189,34 +190,11 @@ pub fn flat_drop(
         ExprNode::Call { word, args } => {
             flat_call(context, nodes, word.as_slice(), args, false, next)
         }
-        ExprNode::Const { .. } => flat_forgotten(context, nodes, e, next),
-        ExprNode::Name { .. } => flat_forgotten(context, nodes, e, next),
-        ExprNode::Index { .. } => flat_forgotten(context, nodes, e, next),
-        ExprNode::Unary { .. } => flat_forgotten(context, nodes, e, next),
-        ExprNode::Cast { .. } => flat_forgotten(context, nodes, e, next),
-        ExprNode::Binary { .. } => flat_forgotten(context, nodes, e, next),
-        ExprNode::Choice { .. } => flat_forgotten(context, nodes, e, next),
-        ExprNode::Assign { op: None, .. } => flat_forgotten(context, nodes, e, next),
-        ExprNode::Assign { op: Some(_), .. } => flat_forgotten(context, nodes, e, next),
-        ExprNode::Bump { .. } => flat_forgotten(context, nodes, e, next),
-        ExprNode::Comma { .. } => flat_forgotten(context, nodes, e, next),
+        _ => {
+            let forget = nodes.push(Node::Forget { next })?;
+            flat_value(context, nodes, e, forget)
+        }
     }
-}
-
-/// The code of an expression whose value is dropped once it is there.
-#[cycle(expression)]
-fn flat_forgotten(
-    context: &Context<'_>,
-    nodes: &mut Nodes,
-    e: &Expr,
-    next: usize,
-) -> Result<usize, NoMemory>
-    requires { next < length nodes.old }
-    ensures { IfOk result (λ at. Grown nodes.old nodes.new at
-        (value_plan context.now (tree e.now) (forget (plan_at nodes.old next)))) }
-{
-    let forget = nodes.push(Node::Forget { next })?;
-    flat_value(context, nodes, e, forget)
 }
 
 /// The code of the index of a place.
@@ -330,7 +308,8 @@ fn flat_arg(
     }
 }
 
-/// The code between the operands of an operator: where the left one may decide the value alone, it is looked at.
+/// The code between the operands of an operator: where the left one may decide the value alone, it is
+/// looked at.
 fn flat_deciding(
     nodes: &mut Nodes,
     op: BinOp,
@@ -343,16 +322,7 @@ fn flat_deciding(
         (deciding op (plan_at nodes.old decided) (plan_at nodes.old other))) }
 {
     match op {
-        BinOp::Both => nodes.push(Node::Decide {
-            op: BinOp::Both,
-            decided,
-            other,
-        }),
-        BinOp::Either => nodes.push(Node::Decide {
-            op: BinOp::Either,
-            decided,
-            other,
-        }),
+        BinOp::Both | BinOp::Either => nodes.push(Node::Decide { op, decided, other }),
         _ => Ok(other),
     }
 }

@@ -3,9 +3,8 @@
 ghost use Rattle.std.specs.Prelude.{◌≡◌, ◌<◌, [], ◌∷◌, length, IfOk, Some, map};
 ghost use Rattle.std.specs.Option.{option_map};
 ghost use Rattle.c_tree.specs.Views.{outer, function as function_tree, program as program_tree, body_of};
-ghost use Rattle.c_types.specs.Evidence.{IsOrdered};
 ghost use Rattle.c_types.specs.Shown.{tree_of};
-ghost use Rattle.c_meaning.specs.Filled.{holed};
+ghost use Rattle.c_meaning.specs.Filled.{holed_at};
 ghost use Rattle.interp_code.specs.Compile.{plan_end, plan_outers, plan_program};
 ghost use Rattle.interp_code.specs.Flat.{plan_at, Grown};
 ghost use Rattle.interp_code.specs.Growing.{GrownEntry, GrownEntries};
@@ -15,38 +14,30 @@ ghost use Rattle.interp_code.specs.Shown.{plans_of, StandsFor};
 use crate::calls::place_of;
 use crate::code::{Code, Nodes};
 use crate::context::Context;
-use crate::declarations::flat_globals;
+use crate::declarations::{Scope, flat_declaration};
 use crate::node::{Callee, Node};
 use crate::routine::Routine;
 use crate::statements::{Exits, flat_items};
-use c_tree::{External, Func, Item, Loc, LocKind, NoMemory, Param, Program, Span, copy_text};
+use c_tree::{External, Func, Item, Loc, NoMemory, Param, Program, copy_text};
 use c_types::Typed;
 use std::alloc::Global;
 
-/// Where no statement stands, since no text of one is empty.
-const NOWHERE: Loc = Loc {
-    kind: LocKind::Guard,
-    at: Span { from: 0, to: 0 },
-};
-
-/// A program in text order as flat code, with a hole at a location of it, or without one.
+/// A program as flat code, with a hole at a location, or without one.
 ///
 /// # Errors
 ///
 /// `NoMemory` where memory runs out.
 pub fn flatten(alloc: Global, program: &Typed, hole: Option<&Loc>) -> Result<Code, NoMemory>
-    requires { IsOrdered (tree_of program.now) }
-    ensures { IfOk result (λ code. StandsFor code (option_map (λ l. l.now) hole.entry) (tree_of program.now)) }
+    ensures { IfOk result (λ code.
+        StandsFor code (option_map (λ l. l.now) hole.entry) (tree_of program.now)) }
 {
-    match hole {
-        Some(hole) => flat_program(alloc, program.program(), *hole),
-        None => flat_program(alloc, program.program(), NOWHERE),
-    }
+    flat_program(alloc, program.program(), hole.copied())
 }
 
-/// The code of a program, whatever the location is.
-fn flat_program(alloc: Global, program: &Program, hole: Loc) -> Result<Code, NoMemory>
-    ensures { IfOk result (λ code. plans_of code ≡ plan_program (holed hole (program_tree program.now))) }
+/// The code of a program with a hole at a location, or without one.
+fn flat_program(alloc: Global, program: &Program, hole: Option<Loc>) -> Result<Code, NoMemory>
+    ensures { IfOk result (λ code.
+        plans_of code ≡ plan_program (holed_at hole (program_tree program.now))) }
 {
     let context = Context {
         alloc,
@@ -163,9 +154,9 @@ fn flat_outer(
             let outside = Context {
                 alloc: context.alloc,
                 externals: context.externals,
-                hole: NOWHERE,
+                hole: None,
             };
-            flat_globals(&outside, nodes, *ty, declarators, next)
+            flat_declaration(&outside, nodes, Scope::File, *ty, declarators, next)
         }
         External::Func(_) => Ok(next),
     }

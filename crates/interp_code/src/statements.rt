@@ -11,7 +11,7 @@ ghost use Rattle.interp_code.specs.Leading.{AreWithin, ways_at, GrownWays};
 
 use crate::code::Nodes;
 use crate::context::Context;
-use crate::declarations::flat_locals;
+use crate::declarations::{Scope, flat_declaration};
 use crate::expressions::{flat_condition, flat_drop, flat_right};
 use crate::holes::stands;
 use crate::node::Node;
@@ -172,10 +172,9 @@ fn flat_stmt(
 {
     match &statement.node {
         StmtNode::Empty => Ok(exits.next),
-        StmtNode::Act(_) => flat_simple(context, nodes, ret, statement, exits),
-        StmtNode::Return(_) => flat_simple(context, nodes, ret, statement, exits),
-        StmtNode::Break => flat_simple(context, nodes, ret, statement, exits),
-        StmtNode::Continue => flat_simple(context, nodes, ret, statement, exits),
+        StmtNode::Act(_) | StmtNode::Return(_) | StmtNode::Break | StmtNode::Continue => {
+            flat_simple(context, nodes, ret, statement, exits)
+        }
         StmtNode::Block(items) => flat_block(context, nodes, ret, items, exits),
         StmtNode::If {
             test,
@@ -337,7 +336,9 @@ fn flat_init(
     match init {
         Init::Empty => Ok(next),
         Init::Act(e) => flat_drop(context, nodes, e, next),
-        Init::Vars(ty, declarators) => flat_locals(context, nodes, *ty, declarators, next),
+        Init::Vars(ty, declarators) => {
+            flat_declaration(context, nodes, Scope::Function, *ty, declarators, next)
+        }
     }
 }
 
@@ -352,7 +353,8 @@ fn flat_test(
     requires zero { zero < length nodes.old }
     requires other { other < length nodes.old }
     ensures { IfOk result (λ at. Grown nodes.old nodes.new at
-        (test_plan context.now (tree_option test.now) (plan_at nodes.old zero) (plan_at nodes.old other))) }
+        (test_plan context.now (tree_option test.now)
+        (plan_at nodes.old zero) (plan_at nodes.old other))) }
 {
     match test {
         None => Ok(other),
@@ -440,7 +442,16 @@ fn flat_item(
         (body_plan context.now ret (with_item item.now done) (ways_at nodes.old exits))) }
 {
     match item {
-        Item::Vars(ty, declarators) => { flat_locals(context, nodes, *ty, declarators, exits.next) }
+        Item::Vars(ty, declarators) => {
+            flat_declaration(
+                context,
+                nodes,
+                Scope::Function,
+                *ty,
+                declarators,
+                exits.next,
+            )
+        }
         Item::Stmt(statement) => flat_stmt(context, nodes, ret, statement, exits),
     }
 }

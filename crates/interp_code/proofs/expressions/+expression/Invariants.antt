@@ -22,9 +22,6 @@ decreases-flat_value l = weight (tree l.e.now)
 abbrev pub decreases-flat_drop : goal.decreases-flat_drop
 decreases-flat_drop l = 2 + weight (tree l.e.now)
 
-abbrev pub decreases-flat_forgotten : goal.decreases-flat_forgotten
-decreases-flat_forgotten l = 1 + weight (tree l.e.now)
-
 abbrev pub decreases-flat_index : goal.decreases-flat_index
 decreases-flat_index l = 1 + weight (tree l.place.now)
 

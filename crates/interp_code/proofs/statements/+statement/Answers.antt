@@ -5,7 +5,7 @@ use Rattle.c_tree.specs.Views.{with_item}
 use Rattle.c_meaning.proofs.Sizes.{code_weight, body_weight, item_weight}
 use Rattle.c_meaning.proofs.Trees.{block_is}
 use Rattle.interp_code.specs.Leading.{ways_at}
-use Rattle.interp_code.proofs.Made.{ok_same, item_positive, act_leaf, give_leaf, break_leaf, continue_leaf}
+use Rattle.interp_code.proofs.Made.{ok_same, item_positive, simple_is}
 use Rattle.interp_code.proofs.statements.+statement.Goals as goal
 
 pub flat_items-flat_item-requires : goal.flat_items-flat_item-requires
@@ -31,13 +31,4 @@ flat_item-flat_stmt-requires t c =
     (omega (arith, same, c.decreases), c.requires)
 
 pub flat_stmt-returns-in-Act : goal.flat_stmt-returns-in-Act
-flat_stmt-returns-in-Act t c = ok_same _ _ _ _ c.flat_simple.result (act_leaf c.args.context.now c.args.ret c.args.statement.now c.in-Act.field-0 (ways_at c.args.nodes.now c.args.exits) c.in-Act.is) c.flat_simple.ensures
-
-pub flat_stmt-returns-in-Return : goal.flat_stmt-returns-in-Return
-flat_stmt-returns-in-Return t c = ok_same _ _ _ _ c.flat_simple-in-Return.result (give_leaf c.args.context.now c.args.ret c.args.statement.now c.in-Return.field-0 (ways_at c.args.nodes.now c.args.exits) c.in-Return.is) c.flat_simple-in-Return.ensures
-
-pub flat_stmt-returns-in-Break : goal.flat_stmt-returns-in-Break
-flat_stmt-returns-in-Break t c = ok_same _ _ _ _ c.flat_simple-in-Break.result (break_leaf c.args.context.now c.args.ret c.args.statement.now (ways_at c.args.nodes.now c.args.exits) c.in-Break.is) c.flat_simple-in-Break.ensures
-
-pub flat_stmt-returns-in-Continue : goal.flat_stmt-returns-in-Continue
-flat_stmt-returns-in-Continue t c = ok_same _ _ _ _ c.flat_simple-in-Continue.result (continue_leaf c.args.context.now c.args.ret c.args.statement.now (ways_at c.args.nodes.now c.args.exits) c.in-Continue.is) c.flat_simple-in-Continue.ensures
+flat_stmt-returns-in-Act t c = ok_same _ _ _ _ c.flat_simple.result (simple_is c.args.context.now c.args.ret c.args.statement.now (ways_at c.args.nodes.now c.args.exits) c.in-Act.is) c.flat_simple.ensures
