@@ -1,12 +1,18 @@
 //! Runs of sources on tests.
 
+ghost use Rattle.std.specs.Prelude.{◌≡◌, ◌<◌};
+
 use c_lex::lex;
 use c_meaning::{Outcome, plain_run};
 use c_parse::parse;
 use c_stdio::Test;
 use c_tree::{NoMemory, Text};
-use c_types::check;
+use c_types::{Typed, check};
+use interp::{Event, Machine, Steps};
+use interp_code::flatten;
 use std::alloc::Global;
+use std::marker::Brand;
+use std::sync::ledger::{Blank, Ledger};
 use std::test::Fail;
 
 /// A limit that no run of these tests reaches.
@@ -31,7 +37,7 @@ pub fn joined(alloc: Global, texts: &[&str]) -> Result<Vec<u8>, NoMemory> {
     Ok(source)
 }
 
-/// How an accepted source ends on a test, in a run of at most so many units.
+/// How an accepted source ends on a test, in a run of at most so many units; the machine ends so too.
 pub fn outcome(alloc: Global, source: &[u8], test: &Test, limit: u64) -> Result<Outcome, Fail> {
     (source.len() < 10_000).then_some(()).ok_or("too long")?;
     let end = source.len() as u32;
@@ -39,7 +45,33 @@ pub fn outcome(alloc: Global, source: &[u8], test: &Test, limit: u64) -> Result<
     let typed = check(alloc, parse(alloc, &tokens, end)?, end)?;
     (1 <= limit).then_some(()).ok_or("no limit")?;
     (limit <= 10_000_000).then_some(()).ok_or("no limit")?;
-    Ok(plain_run(alloc, &typed, test, limit)?)
+    let plain = plain_run(alloc, &typed, test, limit)?;
+    if by_machine::<Brand>(alloc, &typed, test, limit, Blank::new(1))? == plain {
+        Ok(plain)
+    } else {
+        Err("the machine ends otherwise".into())
+    }
+}
+
+/// How the machine ends on a test.
+fn by_machine<L: Ledger>(
+    alloc: Global,
+    typed: &Typed,
+    test: &Test,
+    limit: u64,
+    blank: Blank,
+) -> Result<Outcome, Fail>
+    requires name { blank.name ≡ L.name }
+    requires parts { blank.parts ≡ L.parts }
+    requires some { 0 < L.parts }
+{
+    let code = flatten(alloc, typed, None)?;
+    let mut machine = Machine::new(alloc, &code, test, limit)?;
+    let mut steps: Steps<L> = Steps::new(blank);
+    match machine.next(&mut steps)? {
+        Event::End(outcome) => Ok(outcome),
+        Event::Hole(_) => Err("a hole where there is none".into()),
+    }
 }
 
 /// Whether a source is a program without a fault.
