@@ -1,7 +1,6 @@
 -- In the statements and declarations of a checked program each name finds its object.
-use Rattle.std.proofs.Common.{◌≡◌, ◌≢◌, ℕ, zero, suc, ◌+◌, ◌≤◌, ℤ, pos, List, [], ◌∷◌, ◌++◌, length, map, Option, Some, None, Bool, true, false, refl, arith}
+use Rattle.std.proofs.Common.{◌≡◌, ◌≢◌, ℕ, zero, suc, ◌+◌, ◌≤◌, ℤ, pos, List, [], ◌∷◌, ◌++◌, length, map, Option, Some, None, Bool, true, false, refl, ◌∙◌, arith}
 use Rattle.std.specs.Prelude.{⊤, Contains}
-use Rattle.std.proofs.lemmas.List.Elements.{All-head}
 use Rattle.c_tree.specs.declared.stmt.Slot.{Slot}
 use Rattle.c_tree.specs.declared.stmt.Slot.TheVariants.{Unset}
 use Rattle.c_tree.specs.declared.stmt.Ty.{Ty}
@@ -17,14 +16,14 @@ use Rattle.c_meaning.specs.declared.stop.Flow.TheVariants.{Next, Break, Continue
 use Rattle.c_meaning.specs.World.{World, Out, going, over, waiting, Run, and_then, pure, used, ◌>>◌}
 use Rattle.c_meaning.specs.Steps.{unit, store}
 use Rattle.c_meaning.specs.Meaning.{Filling, Called, cell_count, make_variable, eval, declare_local, declare, begin, exec, declare_global}
-use Rattle.run_laws.specs.Typed.{HasObject, HasCells, EntityHasObject, IsTypedBy, IsSteady}
+use Rattle.run_laws.specs.Typed.{HasCells, IsTypedBy, Keeps, IsSteady}
 use Rattle.run_laws.specs.Holes.{Names}
 use Rattle.run_laws.specs.Places.{below}
-use Rattle.run_laws.specs.Reads.{Then, FindsObject, Inside, Finds}
-use Rattle.run_laws.specs.Bodies.{IfNext, IfStays, IfAgain, InTestTurn, InBodyTurn, InTurns, unit_for, listed, FindsOption, FindsList, FindsInitial, FindsLocals, FindsGlobals, FindsFirst, FindsCode, FindsBody}
+use Rattle.run_laws.specs.Reads.{Then, Inside, Finds}
+use Rattle.run_laws.specs.Bodies.{IfNext, IfStays, IfAgain, InTestTurn, InBodyTurn, InTurns, unit_for, listed, cells_made, HoldsList, FindsOption, FindsList, FindsInitial, FindsLocals, FindsGlobals, FindsFirst, FindsCode, FindsBody}
 use Rattle.run_laws.proofs.Well.{Well, WellOption, WellList, WellInitial, WellVariables, WellFirst, WellCode, WellBody}
 use Rattle.run_laws.proofs.Keeping.{AllWithin, typed_moves}
-use Rattle.run_laws.proofs.Sound.{Context, At, Sound, at_moves, units, stores, pures, used_sound, test_turn_sound, body_turn_sound, before, within_cons, within_declared, variable_from, cells_from, one_cell}
+use Rattle.run_laws.proofs.Sound.{Context, At, Sound, at_moves, units, stores, pures, used_sound, test_turn_sound, body_turn_sound, before, own_before, within_cons, within_declared, variable_from, cells_from, one_cell}
 use Rattle.run_laws.proofs.Runs.{CallsKeep, eval_sound, test_sound, step_sound, has_typed, local_from, global_from, declare_from, within_first, later, begin_from, exec_sound}
 use Rattle.run_laws.proofs.Finding.{then_holds, then_made, then_both, chosen_by, CallsFind, finds}
 
@@ -44,8 +43,11 @@ if_again : (o : Option Flow) (P : Type 0) → P → IfAgain o P
 if_again (Some f) P p = tt
 if_again None P p = p
 
-object_found : (w : World) (slot : Slot) (ty : Ty) (array : Bool) → HasObject w slot ty array → FindsObject w slot array
-object_found w slot ty array has = record { ty = ty; has = has }
+-- a slot that is kept still names an object of as many cells
+cells_move : (S : Slot → Type 0) (w x : World) (slot : Slot) (count : ℕ) → S slot → Keeps S w x → HasCells w slot count → HasCells x slot count
+cells_move S w x slot count own keeps has =
+    let now = keeps.lives has.number has.object has.lives in
+    record { number = has.number; object = now.object; names = keeps.names slot own ∙ has.names; lives = now.lives; many = now.same_length ∙ has.many }
 
 -- the slots of declared variables are set
 slot_set : (storage : Storage) (n : ℕ) → slot_in storage n ≢ Unset
@@ -101,28 +103,30 @@ module _ (filling : Filling) (steady : IsSteady filling) (program : List Outer) 
     option_finds wanted None h w at = tt
     option_finds wanted (Some e) h w at = tree_finds wanted e h w at
 
-    module _ (slot : Slot) (ty : Ty) (array : Bool) (has : (x : World) → At k x → HasObject x slot ty array) where
-      list_finds : (i : ℕ) (es : List Tree) → WellList program scopes there k.may_call k.scope es → (w : World) → At k w
-          → FindsList filling program called inside slot array i (map (resolved_tree k.scope) es) w
-      list_finds i [] h w at = object_found w slot ty array (has w at)
-      list_finds i (e ∷ es) h w at = (
+    module _ (slot : Slot) (own : k.slots slot) (count : ℕ) where
+      list_finds : (i : ℕ) (es : List Tree) → i + length (map (resolved_tree k.scope) es) ≤ count → WellList program scopes there k.may_call k.scope es → (w : World) → At k w → HasCells w slot count
+          → FindsList filling program called inside slot count i (map (resolved_tree k.scope) es) w
+      list_finds i [] le h w at has = has
+      list_finds i (e ∷ es) le h w at has = (
         tree_finds true e h.0 w at,
         then_holds (used (eval filling program called (resolved_tree k.scope e)) w) _ ((value_sound e h.0).by w at) (λ v x keeps.
-            let here = at_moves k w x keeps at in (
-              object_found x slot ty array (has x here),
+            let here = at_moves k w x keeps at in
+            let still = cells_move k.slots w x slot count own keeps has in (
+              still,
+              omega arith,
               then_holds (store slot (pos i) v x) _ ((stores {k = k} slot (pos i) v).by x here)
-                  (λ q y more. list_finds (suc i) es h.1 y (at_moves k x y more here)),
+                  (λ q y more. list_finds (suc i) es (omega arith) h.1 y (at_moves k x y more here) (cells_move k.slots x y slot count own more still)),
             )),
       )
 
-      initial_finds : (start : Initial) → WellInitial program scopes there k.may_call k.scope start → (w : World) → At k w
-          → FindsInitial filling program called inside slot array (resolved_initial k.scope start) w
-      initial_finds bare_start h w at = object_found w slot ty array (has w at)
-      initial_finds (one_start e) h w at = (
+      initial_finds : (start : Initial) → listed (resolved_initial k.scope start) ≤ count → WellInitial program scopes there k.may_call k.scope start → (w : World) → At k w → HasCells w slot count
+          → FindsInitial filling program called inside slot count (resolved_initial k.scope start) w
+      initial_finds bare_start le h w at has = has
+      initial_finds (one_start e) le h w at has = (
         tree_finds true e h w at,
-        then_holds (used (eval filling program called (resolved_tree k.scope e)) w) _ ((value_sound e h).by w at) (λ v x keeps. object_found x slot ty array (has x (at_moves k w x keeps at))),
+        then_holds (used (eval filling program called (resolved_tree k.scope e)) w) _ ((value_sound e h).by w at) (λ v x keeps. (cells_move k.slots w x slot count own keeps has, omega arith)),
       )
-      initial_finds (list_start es) h w at = list_finds 0 es h w at
+      initial_finds (list_start es) le h w at has = list_finds 0 es (omega arith) h w at has
 
   -- ---- declarations
 
@@ -138,33 +142,32 @@ module _ (filling : Filling) (steady : IsSteady filling) (program : List Outer) 
       abbrev inner : Context
       inner = place (suc n) (it ∷ ds) (within_cons storage n ty v ds h)
 
-      own_object : (x : World) → At inner x → HasObject x (slot_in storage n) ty (is_array v.shape)
-      own_object x at = All-head (λ (d : Declaration). EntityHasObject x d.entity) it ds at.typed
-
       -- the object is made, and then its initialiser is evaluated
-      start_finds : (start : Initial) (count : ℕ) → (is_array v.shape ≡ false → count ≡ 1) → WellInitial program scopes there may_call (it ∷ ds) start
+      start_finds : (start : Initial) (count : ℕ) → (is_array v.shape ≡ false → count ≡ 1) → listed (resolved_initial (it ∷ ds) start) ≤ count → WellInitial program scopes there may_call (it ∷ ds) start
           → (w : World) → At (place n ds h) w
-          → Then (make_variable ty (slot_in storage n) count w) (λ u x. HasCells x (slot_in storage n) count × FindsInitial filling program called inside (slot_in storage n) (is_array v.shape) (resolved_initial (it ∷ ds) start) x)
-      start_finds start count one well w at =
+          → Then (make_variable ty (slot_in storage n) count w) (λ u x. HasCells x (slot_in storage n) count × FindsInitial filling program called inside (slot_in storage n) count (resolved_initial (it ∷ ds) start) x)
+      start_finds start count one holds well w at =
           then_both (make_variable ty (slot_in storage n) count w) _ (variable_from {W = W} storage n ty count (is_array v.shape) one w) (cells_from {W = W} storage n ty count w)
           (λ u x keeps has cells. (
             cells,
-            initial_finds inner at_hole keep enter (slot_in storage n) ty (is_array v.shape) own_object start well x
-                (record { typed = has_typed filling steady program scopes there called W file may_call at_hole keep storage files n ty v ds h w x at keeps has; of_file = λ c. typed_moves (before storage n) file w x (files n) keeps (at.of_file c) }),
+            initial_finds inner at_hole keep enter (slot_in storage n) (own_before storage n) count start holds well x
+                (record { typed = has_typed filling steady program scopes there called W file may_call at_hole keep storage files n ty v ds h w x at keeps has; of_file = λ c. typed_moves (before storage n) file w x (files n) keeps (at.of_file c) })
+                cells,
           ))
 
       -- the same after the unit of a declaration in a function
-      paid_finds : (start : Initial) → WellInitial program scopes there may_call (it ∷ ds) start → (w : World) → At (place n ds h) w
-          → Then ((unit_for (resolved_initial (it ∷ ds) start) >> make_variable ty (slot_in storage n) (cell_count v.shape (listed (resolved_initial (it ∷ ds) start)))) w)
-          (λ u x. HasCells x (slot_in storage n) (cell_count v.shape (listed (resolved_initial (it ∷ ds) start))) × FindsInitial filling program called inside (slot_in storage n) (is_array v.shape) (resolved_initial (it ∷ ds) start) x)
-      paid_finds bare_start well w at = start_finds bare_start (cell_count v.shape 0) (one_cell v.shape 0) well w at
-      paid_finds (one_start e) well w at =
+      paid_finds : (start : Initial) → HoldsList v.shape (resolved_initial (it ∷ ds) start) → WellInitial program scopes there may_call (it ∷ ds) start → (w : World) → At (place n ds h) w
+          → Then ((unit_for (resolved_initial (it ∷ ds) start) >> make_variable ty (slot_in storage n) (cells_made v.shape (resolved_initial (it ∷ ds) start))) w)
+          (λ u x. HasCells x (slot_in storage n) (cells_made v.shape (resolved_initial (it ∷ ds) start))
+          × FindsInitial filling program called inside (slot_in storage n) (cells_made v.shape (resolved_initial (it ∷ ds) start)) (resolved_initial (it ∷ ds) start) x)
+      paid_finds bare_start holds well w at = start_finds bare_start (cell_count v.shape 0) (one_cell v.shape 0) holds well w at
+      paid_finds (one_start e) holds well w at =
           then_bind (unit w) _ _ (then_holds (unit w) _ ((units {k = place n ds h}).by w at)
-          (λ u x keeps. start_finds (one_start e) (cell_count v.shape 1) (one_cell v.shape 1) well x (at_moves (place n ds h) w x keeps at)))
-      paid_finds (list_start es) well w at =
+          (λ u x keeps. start_finds (one_start e) (cell_count v.shape 1) (one_cell v.shape 1) holds well x (at_moves (place n ds h) w x keeps at)))
+      paid_finds (list_start es) holds well w at =
           let count = length (map (resolved_tree (it ∷ ds)) es) in
           then_bind (unit w) _ _ (then_holds (unit w) _ ((units {k = place n ds h}).by w at)
-          (λ u x keeps. start_finds (list_start es) (cell_count v.shape count) (one_cell v.shape count) well x (at_moves (place n ds h) w x keeps at)))
+          (λ u x keeps. start_finds (list_start es) (cell_count v.shape count) (one_cell v.shape count) holds well x (at_moves (place n ds h) w x keeps at)))
 
     locals_find : (n : ℕ) (ty : Ty) (vs : List Variable) (here around : List Declaration) (h : AllWithin (before storage n) (here ++ around)) → WellVariables program scopes there may_call storage here around n ty vs
         → (w : World) → At (place n (here ++ around) h) w → FindsLocals filling program called inside ty (resolved_variables here around ty (numbered (slot_in storage) n vs)) w
@@ -174,7 +177,7 @@ module _ (filling : Filling) (steady : IsSteady filling) (program : List Outer) 
         let start = resolved_initial (d ∷ (here ++ around)) v.start in (
           slot_set storage n,
           well.2,
-          paid_finds n ty v (here ++ around) h v.start well.0 w at,
+          paid_finds n ty v (here ++ around) h v.start well.2 well.0 w at,
           then_made (declare_local filling program called ty (slot_in storage n) v.shape start w) _
               (local_from filling steady program scopes there called W file may_call at_hole keep storage files n ty v (here ++ around) h v.start well.0 w at)
               (λ o x keeps typed.
@@ -191,7 +194,7 @@ module _ (filling : Filling) (steady : IsSteady filling) (program : List Outer) 
         let start = resolved_initial (d ∷ (here ++ around)) v.start in (
           slot_set storage n,
           well.2,
-          start_finds n ty v (here ++ around) h v.start (cell_count v.shape (listed start)) (one_cell v.shape (listed start)) well.0 w at,
+          start_finds n ty v (here ++ around) h v.start (cells_made v.shape start) (one_cell v.shape (listed start)) well.2 well.0 w at,
           then_made (declare_global filling program called ty (slot_in storage n) v.shape start w) _
               (global_from filling steady program scopes there called W file may_call at_hole keep storage files n ty v (here ++ around) h v.start well.0 w at)
               (λ o x keeps typed.

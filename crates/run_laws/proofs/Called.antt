@@ -150,11 +150,11 @@ int_entity (Some Scanf) array h = absurd (cc)
 pub int_place : (ds : Names) (e : Tree) → stores_int ds (resolved_tree ds e) ≡ true → IsIntPlace ds (resolved_tree ds e) × (as_number ds (resolved_tree ds e) ≡ [])
 int_place ds (name word slot s) h =
     let is : denoted ds word ≡ Some (VariableEntity (entity_slot (denoted ds word)) Int false) = int_entity (denoted ds word) false h in (
-      record { word = word; slot = entity_slot (denoted ds word); array = false; denotes = is; is_slot = refl },
+      record { word = word; slot = entity_slot (denoted ds word); denotes = is; is_slot = refl; single = λ i zero_is plain. zero_is },
       ap (λ (o : Option Entity). number_faults (named o) s) is,
     )
 int_place ds (index word slot e s) h = (
-  record { word = word; slot = entity_slot (denoted ds word); array = true; denotes = int_entity (denoted ds word) true h; is_slot = refl },
+  record { word = word; slot = entity_slot (denoted ds word); denotes = int_entity (denoted ds word) true h; is_slot = refl; single = λ i any plain. absurd (cc) },
   refl,
 )
 int_place ds (constant n word s) h = absurd (cc)
@@ -367,6 +367,16 @@ definition_body word (outer_func g ∷ q) f h = by_test (bytes_eq g.word word &&
     by_test : (b : Bool) → (bytes_eq g.word word && is_defined g.body) ≡ b → (definition word q ≡ Some f → (body : Body) × (f.body ≡ Some body)) → cond b (Some g) (definition word q) ≡ Some f → (body : Body) × (f.body ≡ Some body)
     by_test true t rest k =
         let there = body_there g.body (and_right (bytes_eq g.word word) _ t) in (there.0, ap (λ (z : Function). z.body) (sym (some_same k)) ∙ there.1)
+    by_test false t rest k = rest k
+
+-- and the word that is looked for
+pub definition_word : (word : List ℕ) (q : List Outer) (f : Function) → definition word q ≡ Some f → bytes_eq f.word word ≡ true
+definition_word word [] f h = absurd (cc)
+definition_word word (outer_vars ty vs ∷ q) f h = definition_word word q f h
+definition_word word (outer_func g ∷ q) f h = by_test (bytes_eq g.word word && is_defined g.body) refl (definition_word word q f) h
+  where
+    by_test : (b : Bool) → (bytes_eq g.word word && is_defined g.body) ≡ b → (definition word q ≡ Some f → bytes_eq f.word word ≡ true) → cond b (Some g) (definition word q) ≡ Some f → bytes_eq f.word word ≡ true
+    by_test true t rest k = ap (λ (z : Function). bytes_eq z.word word) (sym (some_same k)) ∙ and_left (bytes_eq g.word word) _ t
     by_test false t rest k = rest k
 
 -- ---- the words of the library

@@ -1,5 +1,5 @@
 -- Calls, the objects of file scope, and whole programs keep states typed.
-use Rattle.std.proofs.Common.{◌≡◌, ◌≢◌, ℕ, zero, suc, ◌+◌, ℤ, pos, negsuc, List, [], ◌∷◌, ◌++◌, length, drop, Option, Some, None, Bool, true, false, refl, sym, subst, arith, codes, append-nil}
+use Rattle.std.proofs.Common.{◌≡◌, ◌≢◌, ℕ, zero, suc, ◌+◌, ℤ, pos, negsuc, List, [], ◌∷◌, ◌++◌, length, drop, Option, Some, None, Bool, true, false, is_some, refl, sym, ap, ◌∙◌, subst, arith, codes, append-nil}
 use Rattle.std.specs.Prelude.{⊤, All, Contains}
 use Rattle.std.specs.Str.{bytes_eq}
 use Rattle.std.proofs.lemmas.List.Elements.{All-nil, All-cons}
@@ -17,13 +17,13 @@ use Rattle.c_stdio.specs.Output.{is_expected, expected_after}
 use Rattle.c_stdio.specs.Scanning.{input_after}
 use Rattle.c_types.specs.declared.scope.Declaration.{Declaration}
 use Rattle.c_types.specs.declared.scope.Storage.TheVariants.{Static, Automatic}
-use Rattle.c_types.specs.Programs.{param_declaration, params_declared, function_declaration}
+use Rattle.c_types.specs.Programs.{param_declaration, params_declared, function_declaration, definition_faults}
 use Rattle.c_types.specs.Slots.{slot_in, numbered, numbered_param, numbered_params, resolved_variables, resolved_body, resolved_definition, resolved_function, resolved_outers}
 use Rattle.c_types.specs.Statements.{declared}
 use Rattle.c_meaning.specs.declared.argument.Argument.{Argument}
 use Rattle.c_meaning.specs.declared.argument.Argument.TheVariants.{Number, Array, Format, Place}
 use Rattle.c_meaning.specs.declared.stop.End.TheVariants.{Trapped, Exit, Wrong}
-use Rattle.c_meaning.specs.World.{World, going, over, Run, pure, stop, lift, used, ◌>>◌}
+use Rattle.c_meaning.specs.World.{World, Out, going, over, waiting, Run, pure, stop, lift, used, ◌>>◌}
 use Rattle.c_meaning.specs.Steps.{unit, store, attach, number_of, scoped, framed, get_byte, scan, put_text, with_input, with_expected}
 use Rattle.c_meaning.specs.Library.{one_number, call_getchar, call_putchar, numbers, text_with, call_printf, store_read, read_to, call_scanf, absolute, call_abs, call_exit, library}
 use Rattle.c_meaning.specs.Meaning.{Filling, Called, definition, params_of, make_variable, run_body, bind_param, bind_params, enter_body, enter, user_call, calls, call_limit, make_globals, declare_globals, run_program}
@@ -32,11 +32,12 @@ use Rattle.run_laws.specs.Holes.{Names}
 use Rattle.run_laws.proofs.Well.{SuitsOne, Suits, WellVariables, WellDefinition}
 use Rattle.run_laws.specs.Places.{HasSlotIn, below}
 use Rattle.run_laws.proofs.Keeping.{AllWithin, all_within_more, keeps_refl, keeps_fewer, typed_moves, Any, From, from_going, from_over, from_other, from_bind, from_cond, store_keeps, scoped_keeps, framed_keeps, of_file, file_below, local_attached}
-use Rattle.run_laws.proofs.Sound.{Context, At, Sound, bound, pures, stops, units, stores, lifts, some_sound, chosen, before, before_more, within_declared, variable_from}
-use Rattle.run_laws.specs.Reads.{Inside}
-use Rattle.run_laws.specs.Bodies.{FindsBody, InDefinition, InFunction, FindsCall, in_calls}
+use Rattle.run_laws.proofs.Sound.{Context, At, Sound, bound, pures, stops, units, stores, lifts, some_sound, chosen, before, before_more, within_declared, variable_from, cells_from}
+use Rattle.run_laws.specs.Reads.{Then, Inside}
+use Rattle.run_laws.specs.Bodies.{FindsBody, FindsParam, FindsParams, InDefinition, InFunction, FindsCall, in_calls}
 use Rattle.run_laws.proofs.Finding.{then_holds, then_made, CallsFind}
 use Rattle.run_laws.proofs.Bodies.{body_finds}
+use Rattle.run_laws.proofs.Leads.{Gives, body_left, main_gives}
 use Rattle.run_laws.proofs.Runs.{fewer_slots, suits_moves, CallsKeep, globals_from, body_sound}
 
 -- ---- the library
@@ -147,6 +148,10 @@ within_params : (n m : ℕ) (ps : List Param) (here around : List Declaration) �
 within_params n m [] here around e h = all_within_more (below n) (below m) (before_more Automatic n m (omega arith)) (here ++ around) h
 within_params n m (p ∷ ps) here around e h = within_params (suc n) m ps (param_declaration (numbered_param n p) ∷ here) around (omega arith) (within_param n p (here ++ around) h)
 
+-- nothing is said of a state
+abbrev every_world : World → Type 0
+every_world w = ⊤
+
 -- the slots of parameters are set
 params_set : (n : ℕ) (ps : List Param) → All (λ (p : Param). p.slot ≢ Unset) (numbered_params n ps)
 params_set n [] = All-nil (λ (p : Param). p.slot ≢ Unset)
@@ -189,6 +194,24 @@ module _ {W : World → Type 0} where
       (λ b y more q. (keeps_fewer (below (suc n)) (below n) x y (before_more Automatic n (suc n) (omega arith)) more, q))
       (params_from (suc n) ps gs (d ∷ here) around x (within_param n p (here ++ around) h) all (suits_moves (below n) w x (numbered_params (suc n) ps) gs keeps suits.1)))
 
+then_each : {A : Type 0} (o : Out A) (T : A → World → Type 0) → ((a : A) (x : World) → T a x) → Then o T
+then_each (going a x) T h = h a x
+then_each (over e x) T h = tt
+then_each (waiting old x) T h = tt
+
+-- a number is stored where it can be
+param_finds : (n : ℕ) (p : Param) (a : Argument) (w : World) → FindsParam (numbered_param n p) a w
+param_finds n p (Number v) w =
+    then_made {W = every_world} (make_variable p.ty (Local n) 1 w) _ (cells_from {W = every_world} Automatic n p.ty 1 w) (λ u x keeps cells. cells)
+param_finds n p (Array m) w = tt
+param_finds n p (Format f) w = tt
+param_finds n p (Place slot i) w = tt
+
+params_find : (n : ℕ) (ps : List Param) (gs : List Argument) (w : World) → FindsParams (numbered_params n ps) gs w
+params_find n [] gs w = tt
+params_find n (p ∷ ps) [] w = tt
+params_find n (p ∷ ps) (a ∷ gs) w = (param_finds n p a w, then_each (bind_param p.ty (Local n) a w) _ (λ u x. params_find (suc n) ps gs x))
+
 -- ---- functions
 
 pub of_file_below : (n : ℕ) (slot : Slot) → of_file slot → below n slot
@@ -197,6 +220,11 @@ of_file_below n (Global at) h = tt
 of_file_below n Unset h = tt
 
 module _ (program : List Outer) (scopes : List Names) (file : List Declaration) where
+  -- the body of a definition has no fault
+  abbrev pub BodyFaultless : List Declaration → Function → Option Body → Type 0
+  BodyFaultless around f body =
+      definition_faults f.ret (params_declared (numbered_params 0 f.params) []) around (resolved_definition (params_declared (numbered_params 0 f.params) []) around (length f.params) body) ≡ []
+
   -- a definition stands in the program: the declarations before it are those of the file, and its body is well-formed
   pub record IsKnown (f : Function) : Type 0 where
     pub around : List Declaration
@@ -205,6 +233,7 @@ module _ (program : List Outer) (scopes : List Names) (file : List Declaration) 
     pub in_file : (w : World) → IsTypedBy file w → IsTypedBy around w
     pub at_file : AllWithin of_file around
     pub well : WellDefinition program scopes ⊤ ⊤ (params_declared (numbered_params 0 written.params) []) around (length written.params) written.body
+    pub faultless : BodyFaultless around written written.body
 
   abbrev pub IsKnownIfAny : Option Function → Type 0
   IsKnownIfAny None = ⊤
@@ -258,9 +287,10 @@ module _ (filling : Filling) (steady : IsSteady filling) (program : List Outer) 
     module _ (inside : Inside) (enter : CallsFind file ⊤ program inside) where
       body_found : (around : List Declaration) (f : Function) (body : Option Body) (gs : List Argument) (w : World) → AllWithin of_file around → IsTypedBy around w → IsTypedBy file w → Suits (numbered_params 0 f.params) gs w
           → WellDefinition program scopes ⊤ ⊤ (params_declared (numbered_params 0 f.params) []) around (length f.params) body
-          → InDefinition (FindsBody filling program called inside) (resolved_function around f) (resolved_definition (params_declared (numbered_params 0 f.params) []) around (length f.params) body) gs w
-      body_found around f None gs w outer typed all suits well = tt
-      body_found around f (Some body) gs w outer typed all suits well =
+          → BodyFaultless program scopes file around f body
+          → InDefinition (FindsBody filling program called inside) (run_body filling program called) (resolved_function around f) (resolved_definition (params_declared (numbered_params 0 f.params) []) around (length f.params) body) gs w
+      body_found around f None gs w outer typed all suits well free = tt
+      body_found around f (Some body) gs w outer typed all suits well free =
           let ps = numbered_params 0 f.params in
           let here = params_declared ps [] in
           let n = length f.params in
@@ -272,17 +302,22 @@ module _ (filling : Filling) (steady : IsSteady filling) (program : List Outer) 
                 let emptied : Keeps of_file x y = empty_frame x in
                 let typed_there : IsTypedBy around y = typed_moves of_file around x y outer emptied (typed_moves every_slot around w x (all_within_more of_file every_slot (λ slot s. tt) around outer) keeps typed) in
                 let file_there : IsTypedBy file y = typed_moves of_file file x y at_file emptied (typed_moves every_slot file w x (all_within_more of_file every_slot (λ slot s. tt) file at_file) keeps all) in
-                let suits_there = suits_moves of_file x y ps gs emptied (suits_moves every_slot w x ps gs keeps suits) in
-                then_made {W = W} (bind_params ps gs y) _ (params_from 0 f.params gs [] around y (all_within_more of_file (below 0) (of_file_below 0) around outer) typed_there suits_there)
-                (λ o z more good. body_finds filling steady program scopes ⊤ tt called inside W file ⊤ at_hole keep enter files body n here around within well z
-                (record { typed = good; of_file = λ c. typed_moves of_file file y z at_file (keeps_fewer (below 0) of_file y z (of_file_below 0) more) file_there }))),
+                let suits_there = suits_moves of_file x y ps gs emptied (suits_moves every_slot w x ps gs keeps suits) in (
+                  params_find 0 f.params gs y,
+                  then_made {W = W} (bind_params ps gs y) _ (params_from 0 f.params gs [] around y (all_within_more of_file (below 0) (of_file_below 0) around outer) typed_there suits_there)
+                      (λ o z more good. (
+                        body_finds filling steady program scopes ⊤ tt called inside W file ⊤ at_hole keep enter files body n here around within well z
+                            (record { typed = good; of_file = λ c. typed_moves of_file file y z at_file (keeps_fewer (below 0) of_file y z (of_file_below 0) more) file_there }),
+                        body_left filling program called f.ret (resolved_body here around n body) here around free z,
+                      )),
+                )),
           )
 
-      call_found : (o : Option Function) (gs : List Argument) (w : World) → IsKnownIfAny program scopes file o → IsTypedBy file w → Suits (params_of o) gs w → InFunction (FindsBody filling program called inside) o gs w
+      call_found : (o : Option Function) (gs : List Argument) (w : World) → IsKnownIfAny program scopes file o → IsTypedBy file w → Suits (params_of o) gs w → InFunction (FindsBody filling program called inside) (run_body filling program called) o gs w
       call_found None gs w is all suits = tt
       call_found (Some f) gs w is all suits =
-          subst (λ (g : Function). InFunction (FindsBody filling program called inside) (Some g) gs w) (sym is.is)
-          (body_found is.around is.written is.written.body gs w is.at_file (is.in_file w all) all (subst (λ (g : Function). Suits g.params gs w) is.is suits) is.well)
+          subst (λ (g : Function). InFunction (FindsBody filling program called inside) (run_body filling program called) (Some g) gs w) (sym is.is)
+          (body_found is.around is.written is.written.body gs w is.at_file (is.in_file w all) all (subst (λ (g : Function). Suits g.params gs w) is.is suits) is.well is.faultless)
 
   user_from : (n : ℕ) (o : Option Function) (gs : List Argument) (w : World) → IsKnownIfAny program scopes file o → IsTypedBy file w → Suits (params_of o) gs w → From W every_slot Any w (user_call filling program n o gs w)
   unfolding user_call
@@ -301,6 +336,18 @@ module _ (filling : Filling) (steady : IsSteady filling) (program : List Outer) 
   found_in (suc n) o gs w is all suits =
       call_found (calls filling program n) (calls_keep n) (λ word given x. FindsCall filling program n (definition word program) given x)
       (λ word given x c typed good. found_in n (definition word program) given x (known word) typed good) o gs w is all suits
+
+  -- a call of `main` gives a value
+  pub main_called : (n : ℕ) (f : Function) (gs : List Argument) → IsKnown program scopes file f → bytes_eq f.word (codes "main") ≡ true → is_some f.ret ≡ true
+      → Gives (λ o. is_some o ≡ true) (user_call filling program n (Some f) gs)
+  unfolding user_call
+  main_called zero f gs is named has = record { by = λ w. tt }
+  main_called (suc n) f gs is named has =
+      let around = is.around in
+      let raw = resolved_function around is.written in
+      subst (λ (g : Function). Gives (λ o. is_some o ≡ true) (enter (run_body filling program (calls filling program n)) (Some g) gs)) (sym is.is)
+      (main_gives filling program (calls filling program n) raw raw.body (params_declared (numbered_params 0 is.written.params) []) around gs
+      (ap (λ (g : Function). bytes_eq g.word (codes "main")) (sym is.is) ∙ named) (ap (λ (g : Function). is_some g.ret) (sym is.is) ∙ has) is.faultless)
 
   pub calls_find : (n : ℕ) → CallsFind file ⊤ program (in_calls filling program n)
   calls_find n word gs x c typed suits = found_in n (definition word program) gs x (known word) typed suits

@@ -1,6 +1,6 @@
 -- What the laws say of programs with a hole: one that they hold of, and one that isn't resolved, of which they fail.
 -- And what they say of a call with an array.
-use Rattle.std.proofs.Common.{◌≡◌, ℕ, ℤ, pos, List, [], ◌∷◌, length, slice_get, codes, true, false, Some, None, refl, sym, ap, ◌∙◌, subst, arith}
+use Rattle.std.proofs.Common.{◌≡◌, ℕ, ℤ, pos, List, [], ◌∷◌, ◌≤◌, length, slice_get, codes, true, false, Some, None, refl, sym, ap, ◌∙◌, subst, arith}
 use Rattle.std.proofs.lemmas.List.Elements.{All-from_recursion, All-contains}
 use Rattle.std.proofs.lemmas.Slice.Eq.{bytes_eq-Decides}
 use Rattle.std.specs.Prelude.{All}
@@ -8,10 +8,11 @@ use Rattle.std.specs.Str.{bytes_eq}
 use Rattle.c_tree.specs.declared.stmt.Shape.TheVariants.{Scalar, Array}
 use Rattle.c_tree.specs.declared.stmt.Slot.TheVariants.{Local}
 use Rattle.c_tree.specs.declared.stmt.Ty.TheVariants.{Int}
-use Rattle.c_tree.specs.Tree.{Tree, constant, name, index, call, hole, value, no_args, bare_start, list_start, Variable, act, give, next, vars, done, Body, Function, Outer, outer_func, no_span}
+use Rattle.c_tree.specs.Tree.{Tree, constant, name, index, call, hole, Args, value, no_args, bare_start, list_start, Variable, act, give, break, next, vars, done, Body, Function, Outer, outer_func, no_span}
 use Rattle.c_types.specs.Evidence.{IsChecked}
 use Rattle.c_types.specs.Library.{library}
-use Rattle.c_types.specs.Programs.{function_declaration}
+use Rattle.c_types.specs.Least.{fault}
+use Rattle.c_types.specs.Programs.{function_declaration, program_faults}
 use Rattle.c_types.specs.Scopes.{is_declared}
 use Rattle.c_types.specs.Statements.{variable_declaration}
 use Rattle.c_meaning.specs.declared.argument.Argument.{Argument}
@@ -23,7 +24,7 @@ use Rattle.run_laws.specs.Holes.{Names, holes}
 use Rattle.run_laws.specs.Places.{file_scope, IsThere}
 use Rattle.run_laws.specs.Laws.{IsTypedByOne}
 use Rattle.run_laws.specs.Reads.{TakesAll, IsDefinedFor, IsCallable}
-use Rattle.run_laws.specs.Bodies.{FindsCall}
+use Rattle.run_laws.specs.Bodies.{FindsCall, RunFinds}
 use Rattle.run_laws.proofs.Programs.{runs-find}
 
 -- holes at which every run stops
@@ -151,51 +152,79 @@ own_is_steady : IsSteady no_hole
 own_is_steady = record { by = λ old w. tt }
 
 -- the law says of its run that the function takes the array
-takes_array : IsCallable calling at_call (codes "first") (Given 0 ∷ [])
+takes_array : IsCallable calling at_call (codes "first") (value (name (codes "b") (Local 0) no_span) no_args) (Given 0 ∷ [])
 unfolding user_call FindsCall
-takes_array = (runs-find calling calling_is_checked no_hole own_is_steady at_first).1.2.1.1.0.1.0
+takes_array = (runs-find calling calling_is_checked no_hole own_is_steady at_first).1.2.1.1.0.1.0.1.0
 
 -- what is called by another word than those of the library is defined
-own_call : (program : List Outer) (w : World) (word : List ℕ) (gs : List Argument) → IsCallable program w word gs → is_declared library word ≡ false → IsDefinedFor program word gs w
-own_call program w _ _ IsCallable.getchar h = absurd (cc)
-own_call program w _ _ (IsCallable.putchar v) h = absurd (cc)
-own_call program w _ _ (IsCallable.abs v) h = absurd (cc)
-own_call program w _ _ (IsCallable.exit v) h = absurd (cc)
-own_call program w _ _ (IsCallable.printf f vs is) h = absurd (cc)
-own_call program w _ _ (IsCallable.scanf slot i array has) h = absurd (cc)
-own_call program w _ _ (IsCallable.own word gs free is) h = is
+own_call : (program : List Outer) (w : World) (word : List ℕ) (args : Args) (gs : List Argument) → IsCallable program w word args gs → is_declared library word ≡ false → IsDefinedFor program word gs w
+own_call program w _ _ _ (IsCallable.getchar args) h = absurd (cc)
+own_call program w _ _ _ (IsCallable.putchar args v) h = absurd (cc)
+own_call program w _ _ _ (IsCallable.abs args v) h = absurd (cc)
+own_call program w _ _ _ (IsCallable.exit args v) h = absurd (cc)
+own_call program w _ _ _ (IsCallable.printf args f vs is) h = absurd (cc)
+own_call program w _ _ _ (IsCallable.scanf s e i has first) h = absurd (cc)
+own_call program w _ _ _ (IsCallable.own word args gs free is) h = is
 
 -- it takes no number in the array's place, and not nothing
-takes_no_number : IsCallable calling at_call (codes "first") (Number (pos 7) ∷ []) → ⊥
-takes_no_number h =
-    let own = own_call calling at_call (codes "first") (Number (pos 7) ∷ []) h refl in
+takes_no_number : (args : Args) → IsCallable calling at_call (codes "first") args (Number (pos 7) ∷ []) → ⊥
+takes_no_number args h =
+    let own = own_call calling at_call (codes "first") args (Number (pos 7) ∷ []) h refl in
     let same : own.function ≡ first = some_same (sym own.is) in
     let takes : TakesAll first.params (Number (pos 7) ∷ []) at_call = subst (λ (f : Function). TakesAll f.params (Number (pos 7) ∷ []) at_call) same own.takes in
     let wrong : true ≡ false = takes.0 in
     absurd (cc)
 
-takes_not_nothing : IsCallable calling at_call (codes "first") [] → ⊥
-takes_not_nothing h =
-    let own = own_call calling at_call (codes "first") [] h refl in
+takes_not_nothing : (args : Args) → IsCallable calling at_call (codes "first") args [] → ⊥
+takes_not_nothing args h =
+    let own = own_call calling at_call (codes "first") args [] h refl in
     let same : own.function ≡ first = some_same (sym own.is) in
     subst (λ (f : Function). TakesAll f.params [] at_call) same own.takes
 
 -- nothing is called by a word that is nowhere defined
-not_defined : (gs : List Argument) → IsCallable calling at_call (codes "second") gs → ⊥
-not_defined gs h =
-    let own = own_call calling at_call (codes "second") gs h refl in
+not_defined : (args : Args) (gs : List Argument) → IsCallable calling at_call (codes "second") args gs → ⊥
+not_defined args gs h =
+    let own = own_call calling at_call (codes "second") args gs h refl in
     let found : None ≡ Some own.function = own.is in
     absurd (cc)
 
 -- `putchar` takes no other than one argument
-one_for_putchar : (program : List Outer) (w : World) (word : List ℕ) (gs : List Argument) → IsCallable program w word gs → bytes_eq word (codes "putchar") ≡ true → length gs ≡ 1
-one_for_putchar program w _ _ IsCallable.getchar h = absurd (cc)
-one_for_putchar program w _ _ (IsCallable.putchar v) h = refl
-one_for_putchar program w _ _ (IsCallable.abs v) h = absurd (cc)
-one_for_putchar program w _ _ (IsCallable.exit v) h = absurd (cc)
-one_for_putchar program w _ _ (IsCallable.printf f vs is) h = absurd (cc)
-one_for_putchar program w _ _ (IsCallable.scanf slot i array has) h = absurd (cc)
-one_for_putchar program w _ _ (IsCallable.own word gs free is) h =
+one_for_putchar : (program : List Outer) (w : World) (word : List ℕ) (args : Args) (gs : List Argument) → IsCallable program w word args gs → bytes_eq word (codes "putchar") ≡ true → length gs ≡ 1
+one_for_putchar program w _ _ _ (IsCallable.getchar args) h = absurd (cc)
+one_for_putchar program w _ _ _ (IsCallable.putchar args v) h = refl
+one_for_putchar program w _ _ _ (IsCallable.abs args v) h = absurd (cc)
+one_for_putchar program w _ _ _ (IsCallable.exit args v) h = absurd (cc)
+one_for_putchar program w _ _ _ (IsCallable.printf args f vs is) h = absurd (cc)
+one_for_putchar program w _ _ _ (IsCallable.scanf s e i has first) h = absurd (cc)
+one_for_putchar program w _ _ _ (IsCallable.own word args gs free is) h =
     let same : codes "putchar" ≡ word = sym ((bytes_eq-Decides word (codes "putchar")).0 h) in
     let declared : true ≡ false = subst (λ (z : List ℕ). is_declared library z ≡ false) (sym same) free in
     absurd (cc)
+
+-- ---- trees of which the laws fail
+
+abbrev main_of : Body → List Outer
+main_of body = outer_func (record { word = codes "main"; span = no_span; ret = Some Int; params = []; body = Some body }) ∷ []
+
+-- control leaves the body of `main` by a `break`
+leaves_by_break : RunFinds no_hole (main_of (next (break no_span) done)) at_first → ⊥
+unfolding user_call FindsCall
+leaves_by_break h = h.1.2.1.1.1
+
+-- and by a `return` without a value
+leaves_with_nothing : RunFinds no_hole (main_of (next (give None no_span) done)) at_first → ⊥
+unfolding user_call FindsCall
+leaves_with_nothing h = let wrong : false ≡ true = h.1.2.1.1.1 in absurd (cc)
+
+-- `int x = {7, 8};`, which the rules of kinds refuse
+abbrev crowded : Variable
+crowded = record { word = codes "x"; slot = Local 0; span = no_span; shape = Scalar; start = list_start (number (pos 7) ∷ (number (pos 8) ∷ [])) }
+
+is_refused : IsChecked (main_of (vars Int (crowded ∷ []) done)) → ⊥
+unfolding fault
+is_refused h = let none : program_faults (main_of (vars Int (crowded ∷ []) done)) 0 ≡ [] = h.faultless 0 in absurd (cc)
+
+-- its object has no cell for the second
+is_crowded : RunFinds no_hole (main_of (vars Int (crowded ∷ []) done)) at_first → ⊥
+unfolding user_call FindsCall
+is_crowded h = let holds : 2 ≤ 1 = h.1.2.1.1.0.0.1 in absurd (omega arith)

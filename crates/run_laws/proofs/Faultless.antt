@@ -294,7 +294,7 @@ module _ (program : List Outer) (scopes : List Names) (ds : Names) where
 
 -- ---- declarations and statements
 
--- a written length is no less than the number of initialisers in a list
+-- a number that is not less than another
 not_less : (n : ℤ) (k : ℕ) → int_lt n (pos k) ≡ false → k ≤ unsigned_abs n
 not_less (pos m) k h = grind (arith, nat_tests)
 not_less (negsuc m) k h = absurd (cc)
@@ -304,12 +304,14 @@ or_left true b h = absurd (cc)
 or_left false b h = refl
 
 holds_list : (shape : Shape) (start : Initial) (s : Span) → length_faults shape start s ≡ [] → HoldsList shape start
-holds_list Plainly start s h a = absurd (cc)
-holds_list (Cells None) start s h a = omega arith
-holds_list (Cells (Some n)) bare_start s h a = omega arith
-holds_list (Cells (Some n)) (one_start e) s h a =
+holds_list Plainly bare_start s h = omega arith
+holds_list Plainly (one_start e) s h = omega arith
+holds_list Plainly (list_start es) s h = not_less (pos 1) (length es) (no_fault (int_lt (pos 1) (pos (length es))) WrongCount s h)
+holds_list (Cells None) start s h = omega arith
+holds_list (Cells (Some n)) bare_start s h = omega arith
+holds_list (Cells (Some n)) (one_start e) s h =
     not_less n 1 (or_left (int_lt n (pos 1)) (int_lt (pos 1048576) n) (no_fault (int_lt n (pos 1) || int_lt (pos 1048576) n) BadArrayLength s (none_left _ _ h)))
-holds_list (Cells (Some n)) (list_start es) s h a =
+holds_list (Cells (Some n)) (list_start es) s h =
     not_less n (length es) (no_fault (int_lt n (pos (length es))) WrongCount s (none_right (fault_if (int_lt n (pos 1) || int_lt (pos 1048576) n) BadArrayLength s) _ h))
 
 -- what a resolved declarator declares

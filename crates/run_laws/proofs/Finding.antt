@@ -20,7 +20,7 @@ use Rattle.c_meaning.specs.World.{World, Out, going, over, waiting, used}
 use Rattle.c_meaning.specs.Meaning.{Filling, Called, slot_of, definition, params_of, takes_array, rest_of, passed, eval, index_of, evals}
 use Rattle.run_laws.specs.Typed.{HasObject, IsTypedBy, Keeps, IsSteady}
 use Rattle.run_laws.specs.Holes.{Names}
-use Rattle.run_laws.specs.Reads.{Then, Chosen, FindsObject, FindsArray, FindsPlace, Takes, TakesAll, IsCallable, Inside, Finds, FindsIndex, FindsArgs}
+use Rattle.run_laws.specs.Reads.{Then, Chosen, FindsObject, FindsArray, FindsPlace, Takes, TakesAll, is_element, IsCallable, Inside, Finds, FindsIndex, FindsArgs}
 use Rattle.run_laws.proofs.Well.{first_ty, IsNameOf, IsArrayName, Suits, ShapedOne, Shaped, AllValues, IsIntPlace, IsCall, Well, WellArgs}
 use Rattle.run_laws.proofs.Formats.{conversions-agree}
 use Rattle.run_laws.proofs.Keeping.{From}
@@ -142,42 +142,44 @@ takes_all (p ∷ ps) (address e rest) gs w h k = absurd h
 
 -- the arguments of one number
 number_callable : (program : List Outer) (word : List ℕ) (e : Tree) (gs : List Argument) (w : World) → definition word program ≡ None → Shaped (params_of (definition word program)) (value e no_args) gs w
-    → ((v : ℤ) → IsCallable program w word (Number v ∷ [])) → IsCallable program w word gs
+    → ((v : ℤ) → IsCallable program w word (value e no_args) (Number v ∷ [])) → IsCallable program w word (value e no_args) gs
 number_callable program word e gs w none shaped make =
     let one = one_given e gs w (subst (λ (o : Option Function). Shaped (params_of o) (value e no_args) gs w) none shaped) in
-    subst (λ (as_ : List Argument). IsCallable program w word as_) (sym one.1) (make one.0)
+    subst (λ (as_ : List Argument). IsCallable program w word (value e no_args) as_) (sym one.1) (make one.0)
 
-printf_callable : (program : List Outer) (f : List ℕ) (s : Span) (rest : Args) (n : ℕ) (gs : List Argument) (w : World) → kinds.conversions f ≡ Some n → AllValues n rest → Shaped [] (format f s rest) gs w → IsCallable program w (codes "printf") gs
+printf_callable : (program : List Outer) (f : List ℕ) (s : Span) (rest : Args) (n : ℕ) (gs : List Argument) (w : World) → kinds.conversions f ≡ Some n → AllValues n rest → Shaped [] (format f s rest) gs w
+    → IsCallable program w (codes "printf") (format f s rest) gs
 printf_callable program f s rest n [] w is all shaped = absurd shaped
 printf_callable program f s rest n (g ∷ gs) w is all shaped =
     let given = numbers_given n rest gs w all shaped.1 in
     let count : printing.conversions f ≡ Some (length given.0) = sym (conversions-agree f) ∙ is ∙ ap (λ k. Some k) given.2 in
-    subst (λ (as_ : List Argument). IsCallable program w (codes "printf") as_) (sym (ap₂ (λ (a : Argument) as_. a ∷ as_) shaped.0 given.1)) (IsCallable.printf f given.0 count)
+    subst (λ (as_ : List Argument). IsCallable program w (codes "printf") (format f s rest) as_) (sym (ap₂ (λ (a : Argument) as_. a ∷ as_) shaped.0 given.1)) (IsCallable.printf (format f s rest) f given.0 count)
 
 scanf_callable : (program : List Outer) (ds : Names) (ps : List Param) (s : Span) (e : Tree) (gs : List Argument) (w : World) → IsIntPlace ds e → Shaped ps (format (codes "%d") s (address e no_args)) gs w → IsTypedBy ds w
-    → IsCallable program w (codes "scanf") gs
+    → IsCallable program w (codes "scanf") (format (codes "%d") s (address e no_args)) gs
 scanf_callable program ds ps s e [] w is shaped typed = absurd shaped
 scanf_callable program ds ps s e (g ∷ []) w is shaped typed = absurd shaped.1
 scanf_callable program ds ps s e (g ∷ (a ∷ gs)) w is shaped typed =
-    let has : HasObject w (slot_of e) Int is.array = subst (λ (z : Slot). HasObject w z Int is.array) (sym is.is_slot) (denoted_object ds w is.word is.slot Int is.array typed is.denotes) in
+    let has : HasObject w (slot_of e) Int (is_element e) = subst (λ (z : Slot). HasObject w z Int (is_element e)) (sym is.is_slot) (denoted_object ds w is.word is.slot Int (is_element e) typed is.denotes) in
     let rest : gs ≡ [] = none_given (rest_of (rest_of ps)) gs w shaped.1.1 in
     let all : g ∷ (a ∷ gs) ≡ Format (codes "%d") ∷ (Place (slot_of e) shaped.1.0.0 ∷ []) =
     ap₂ (λ (x : Argument) as_. x ∷ as_) shaped.0 (ap₂ (λ (x : Argument) as_. x ∷ as_) shaped.1.0.1 rest) in
-    subst (λ (as_ : List Argument). IsCallable program w (codes "scanf") as_) (sym all) (IsCallable.scanf (slot_of e) shaped.1.0.0 is.array has)
+    subst (λ (as_ : List Argument). IsCallable program w (codes "scanf") (format (codes "%d") s (address e no_args)) as_) (sym all)
+    (IsCallable.scanf s e shaped.1.0.0 has (is.single shaped.1.0.0 shaped.1.0.2))
 
 -- a call that can be made takes the arguments that it is given
 callable : (program : List Outer) (ds : Names) (word : List ℕ) (args : Args) (gs : List Argument) (w : World) → IsCall program ds word args → Shaped (params_of (definition word program)) args gs w → IsTypedBy ds w
-    → IsCallable program w word gs
+    → IsCallable program w word args gs
 callable program ds word args gs w IsCall.getchar shaped typed =
-    subst (λ (as_ : List Argument). IsCallable program w (codes "getchar") as_) (sym (none_given (params_of (definition (codes "getchar") program)) gs w shaped)) IsCallable.getchar
-callable program ds word args gs w (IsCall.putchar e none) shaped typed = number_callable program (codes "putchar") e gs w none shaped (λ v. IsCallable.putchar v)
-callable program ds word args gs w (IsCall.abs e none) shaped typed = number_callable program (codes "abs") e gs w none shaped (λ v. IsCallable.abs v)
-callable program ds word args gs w (IsCall.exit e none) shaped typed = number_callable program (codes "exit") e gs w none shaped (λ v. IsCallable.exit v)
+    subst (λ (as_ : List Argument). IsCallable program w (codes "getchar") no_args as_) (sym (none_given (params_of (definition (codes "getchar") program)) gs w shaped)) (IsCallable.getchar no_args)
+callable program ds word args gs w (IsCall.putchar e none) shaped typed = number_callable program (codes "putchar") e gs w none shaped (λ v. IsCallable.putchar (value e no_args) v)
+callable program ds word args gs w (IsCall.abs e none) shaped typed = number_callable program (codes "abs") e gs w none shaped (λ v. IsCallable.abs (value e no_args) v)
+callable program ds word args gs w (IsCall.exit e none) shaped typed = number_callable program (codes "exit") e gs w none shaped (λ v. IsCallable.exit (value e no_args) v)
 callable program ds word args gs w (IsCall.printf f s rest n is all none) shaped typed =
     printf_callable program f s rest n gs w is all (subst (λ (o : Option Function). Shaped (params_of o) (format f s rest) gs w) none shaped)
 callable program ds word args gs w (IsCall.scanf s e place) shaped typed = scanf_callable program ds (params_of (definition (codes "scanf") program)) s e gs w place shaped typed
 callable program ds word args gs w (IsCall.own _ _ f body free found is all) shaped typed =
-    IsCallable.own word gs free (record {
+    IsCallable.own word args gs free (record {
       function = f;
       is = found;
       body = body;

@@ -6,7 +6,9 @@ pub mod Called
 pub mod Faultless
 pub mod Finding
 pub mod Bodies
+pub mod Leads
 pub mod Calls
 pub mod Formats
 pub mod Programs
+pub mod NoHoles
 mod Examples

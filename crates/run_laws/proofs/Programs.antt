@@ -30,7 +30,7 @@ use Rattle.c_types.proofs.Resolving.{program-kept, function-kept}
 use Rattle.c_types.proofs.NamesResolved.{names-resolved}
 use Rattle.c_types.proofs.SlotlessFaults.{function_declaration-same}
 use Rattle.c_meaning.specs.World.{Object, World, Out, going, over, waiting}
-use Rattle.c_meaning.specs.Meaning.{Filling, Called, definition, is_defined, exec, calls, call_limit, declare_globals, make_globals, run_program}
+use Rattle.c_meaning.specs.Meaning.{Filling, Called, definition, is_defined, exec, user_call, calls, call_limit, declare_globals, make_globals, run_program}
 use Rattle.c_meaning.specs.Laws.{FitsCell, FitsWorld, FitsOut}
 use Rattle.c_meaning.proofs.Related.{program_related}
 use Rattle.c_meaning.proofs.Fits.{Fitting, fits}
@@ -39,11 +39,11 @@ use Rattle.run_laws.specs.Holes.{Names, tree_holes, definition_holes, variables_
 use Rattle.run_laws.specs.Laws.{RunsFindObjects, IsTypedByOne, HolesAreTyped, HolesFit, NameHasObject, NamesHaveObjects, TypedStatesShowVariables, EndsTyped, StatementsKeepTypes, ExpressionsFindObjects}
 use Rattle.run_laws.specs.Places.{outers_declared, file_scope, below, HasSlotIn, AgreesWith, Agrees, IsThere, IsScopeIn}
 use Rattle.run_laws.proofs.Keeping.{All-left, All-right, AllWithin, all_within_more, typed_moves, Any, From, of_file, file_below}
-use Rattle.run_laws.proofs.Calls.{IsKnown, IsKnownIfAny, scope_at_end, WellGlobals, no_slot, of_file_below, calls_keep, program_from, found_in, calls_find, variables_from, within_globals, globals_made}
+use Rattle.run_laws.proofs.Calls.{IsKnown, IsKnownIfAny, scope_at_end, WellGlobals, no_slot, of_file_below, calls_keep, program_from, found_in, main_called, calls_find, variables_from, within_globals, globals_made}
 use Rattle.run_laws.proofs.Runs.{denoted_object, CallsKeep, exec_sound}
-use Rattle.run_laws.proofs.Called.{no_such, some_same, not_true, same_types, nat_equal, length-map, and_left, and_right, Stands, AllStand, option_there, definition_body, Among, denoted_among}
+use Rattle.run_laws.proofs.Called.{no_such, some_same, not_true, same_types, nat_equal, length-map, and_left, and_right, Stands, AllStand, option_there, definition_body, definition_word, Among, denoted_among}
 use Rattle.run_laws.proofs.Faultless.{declared-resolved, globals_well, agree_declared, tree_well, code_well, definition_well}
-use Rattle.run_laws.specs.Reads.{TakesAll, IsDefinedFor, GivesValue, Inside, Finds}
+use Rattle.run_laws.specs.Reads.{Then, TakesAll, IsDefinedFor, GivesValue, Inside, Finds}
 use Rattle.run_laws.specs.Bodies.{FindsOuters, in_calls, RunFinds}
 use Rattle.run_laws.proofs.Bodies.{globals_find}
 use Rattle.run_laws.proofs.Sound.{Context}
@@ -457,6 +457,7 @@ module _ (file : List Outer) (scopes : List Names) where
             in_file = λ w typed. scope_before file p around n w typed;
             at_file = at_file_function file d here at;
             well = definition_well whole scopes ⊤ d.ret d.body params around (agree_params whole 0 d.params [] around agrees) (length d.params) bodies held.0;
+            faultless = bodies;
           }
       by_test agrees held false rest k = rest k
 
@@ -541,6 +542,15 @@ module _ (file : List Outer) (scopes : List Names) where
                 absurd (cc)),
           )
 
+      main_value : has_main whole ≡ true → (x : World) → Then (user_call filling whole call_limit (definition (codes "main") whole) [] x) (λ o y. is_some o ≡ true)
+      main_value mains x =
+          let found = option_there (definition (codes "main") whole) (main_defined whole mains) in
+          let number = (main_bare found.0 found.1 file library 0 (λ w g e. inr e) faultless mains).1 in
+          let is : IsKnown whole scopes (scope_at_end file library 0 file) found.0 = subst (λ (o : Option Function). IsKnownIfAny whole scopes (scope_at_end file library 0 file) o) found.1 (known_word (codes "main")) in
+          subst (λ (o : Option Function). Then (user_call filling whole call_limit o [] x) (λ v y. is_some v ≡ true)) (sym found.1)
+          ((main_called filling steady whole scopes (scope_at_end file library 0 file) W at_hole (at_file file file library 0 at_start) known_word call_limit found.0 [] is
+          (definition_word (codes "main") whole found.0 found.1) (ap (λ (r : Option Ty). is_some r) number)).by x)
+
       pub run_found : has_main whole ≡ true → (w : World) → RunFinds filling whole w
       run_found mains w =
           let called = calls filling whole call_limit in
@@ -551,6 +561,7 @@ module _ (file : List Outer) (scopes : List Names) where
                   (main_there mains x).0,
                   (main_there mains x).1,
                   found_in filling steady whole scopes (scope_at_end file library 0 file) W at_hole (at_file file file library 0 at_start) known_word call_limit (definition (codes "main") whole) [] x (known_word (codes "main")) good tt,
+                  main_value mains x,
                 )),
           )
 

@@ -25,7 +25,7 @@ use Rattle.c_meaning.specs.Steps.{unit, object_of, number_of}
 use Rattle.c_meaning.specs.Meaning.{Filling, Called, decided, bump_op, slot_of, definition, params_of, takes_array, rest_of, passed, cell_count, make_variable, eval, index_of, evals, perform, store_list, declare_object, declare_local, declare, begin, test_of, step_of, exec, run_body, declare_global, declare_globals}
 use Rattle.run_laws.specs.Typed.{HasObject, EntityHasObject, IsTypedBy, Keeps, every_slot, KeepsObjects, IsSteady}
 use Rattle.run_laws.specs.Holes.{Names}
-use Rattle.run_laws.proofs.Well.{first_ty, IsArrayName, SuitsOne, Suits, ShapedOne, Shaped, Well, WellArgs, WellOption, WellList, WellInitial, WellVariables, WellFirst, WellCode, WellBody}
+use Rattle.run_laws.proofs.Well.{first_ty, IsArrayName, SuitsOne, Suits, ShapedOne, IndexIs, Shaped, Well, WellArgs, WellOption, WellList, WellInitial, WellVariables, WellFirst, WellCode, WellBody}
 use Rattle.run_laws.specs.Places.{below}
 use Rattle.run_laws.specs.Reads.{IsLive}
 use Rattle.run_laws.proofs.Keeping.{AllWithin, all_within_more, keeps_refl, keeps_fewer, typed_moves, Any, From, from_going, from_over, from_other, from_bind, object_of_keeps}
@@ -185,11 +185,28 @@ module _ (filling : Filling) (steady : IsSteady filling) (program : List Outer) 
           (λ gs y more all. from_going (Format f ∷ gs) y (keeps_refl k.slots y) (refl, all))
       evals_from (address v rest) ps h w at =
           from_bind (index_of filling program called (resolved_tree k.scope v) w) _
-          ((index_sound v h.1.0).by w at)
-          (λ i x keeps any.
+          (indexed_from v h.1.0 w at)
+          (λ i x keeps indexed.
           from_bind (evals filling program called (rest_of ps) (resolved_args k.scope rest) x) (λ gs. pure (Place (slot_of (resolved_tree k.scope v)) i ∷ gs))
           (evals_from rest (rest_of ps) h.1.1 x (at_moves k w x keeps at))
-          (λ gs y more all. from_going (Place (slot_of (resolved_tree k.scope v)) i ∷ gs) y (keeps_refl k.slots y) ((i, refl), all)))
+          (λ gs y more all. from_going (Place (slot_of (resolved_tree k.scope v)) i ∷ gs) y (keeps_refl k.slots y) ((i, refl, indexed), all)))
+
+      -- the index of a name is 0
+      indexed_from : (t : Tree) → Well program scopes there k.may_call k.scope true t → (w : World) → At k w
+          → From k.waits k.slots (λ i x. IndexIs (resolved_tree k.scope t) i) w (index_of filling program called (resolved_tree k.scope t) w)
+      indexed_from (name word slot s) h w at = from_going (pos 0) w (keeps_refl k.slots w) refl
+      indexed_from (index word slot v s) h w at = (used_sound (eval_sound true v h.1)).by w at
+      indexed_from (constant n word s) h w at = from_over _ w
+      indexed_from (call word args s) h w at = from_over _ w
+      indexed_from (unary o v s) h w at = from_over _ w
+      indexed_from (cast ty v s) h w at = from_over _ w
+      indexed_from (binary o l r s) h w at = from_over _ w
+      indexed_from (choice t a b s) h w at = from_over _ w
+      indexed_from (assign o place v s) h w at = from_over _ w
+      indexed_from (bump pre up place s) h w at = from_over _ w
+      indexed_from (comma l r s) h w at = from_over _ w
+      indexed_from hole h w at = from_over _ w
+      indexed_from (hole_after v) h w at = from_over _ w
 
     pub perform_sound : (t : Tree) → Well program scopes there k.may_call k.scope false t → Sound k (perform filling program called (resolved_tree k.scope t))
     perform_sound t h = bound (eval_sound false t h) (λ o. pures tt)

@@ -149,7 +149,7 @@ before_more Static n m le (Local at) h = tt
 before_more Static n m le (Global at) h = omega arith
 before_more Static n m le Unset h = tt
 
-own_before : (storage : Storage) (n : ℕ) → before storage (suc n) (slot_in storage n)
+pub own_before : (storage : Storage) (n : ℕ) → before storage (suc n) (slot_in storage n)
 own_before Automatic n = omega arith
 own_before Static n = omega arith
 

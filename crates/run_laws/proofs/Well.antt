@@ -1,7 +1,7 @@
 -- What the run of a part of a program needs of it: each call gets arrays where the called function takes them, each
 -- hole stands in a known scope, and where what is called is there, a name is one of a number, and a call is one that
 -- can be made. The trees are those before the slots are set; the slots are counted along.
-use Rattle.std.specs.Prelude.{⊤, ◌≡◌, ℕ, zero, suc, ◌+◌, ℤ, List, [], ◌∷◌, ◌++◌, length, codes, Contains, Option, Some, None, Bool, true, false}
+use Rattle.std.specs.Prelude.{⊤, ◌≡◌, ℕ, zero, suc, ◌+◌, ℤ, pos, List, [], ◌∷◌, ◌++◌, length, codes, Contains, Option, Some, None, Bool, true, false}
 use Rattle.c_tree.specs.declared.place.Span.{Span}
 use Rattle.c_tree.specs.declared.program.Param.{Param}
 use Rattle.c_tree.specs.declared.stmt.Slot.{Slot}
@@ -22,7 +22,7 @@ use Rattle.c_meaning.specs.Meaning.{slot_of, definition, params_of, takes_array,
 use Rattle.c_meaning.specs.declared.argument.Argument.{Argument}
 use Rattle.c_meaning.specs.declared.argument.Argument.TheVariants.{Number, Array, Format, Place}
 use Rattle.run_laws.specs.Holes.{Names}
-use Rattle.run_laws.specs.Reads.{IsLive, GivesValue}
+use Rattle.run_laws.specs.Reads.{IsLive, is_element, GivesValue}
 use Rattle.run_laws.specs.Bodies.{HoldsList}
 
 -- the type of the first parameter
@@ -66,6 +66,11 @@ ShapedOne false ty (Array n) w = ⊥
 ShapedOne false ty (Format f) w = ⊥
 ShapedOne false ty (Place slot i) w = ⊥
 
+-- the index of a place that is a name is 0
+abbrev pub IndexIs : Tree → ℤ → Type 0
+IndexIs (name word slot s) i = i ≡ pos 0
+IndexIs e i = ⊤
+
 -- arguments are those that such expressions give for these parameters
 abbrev pub Shaped : List Param → Args → List Argument → World → Type 0
 Shaped ps no_args [] w = ⊤
@@ -75,7 +80,7 @@ Shaped ps (value e rest) (g ∷ gs) w = ShapedOne (takes_array ps) (first_ty ps)
 Shaped ps (format f s rest) [] w = ⊥
 Shaped ps (format f s rest) (g ∷ gs) w = (g ≡ Format f) × Shaped (rest_of ps) rest gs w
 Shaped ps (address e rest) [] w = ⊥
-Shaped ps (address e rest) (g ∷ gs) w = ((i : ℤ) × (g ≡ Place (slot_of e) i)) × Shaped (rest_of ps) rest gs w
+Shaped ps (address e rest) (g ∷ gs) w = ((i : ℤ) × (g ≡ Place (slot_of e) i) × IndexIs e i) × Shaped (rest_of ps) rest gs w
 
 -- so many arguments, each a value
 abbrev pub AllValues : ℕ → Args → Type 0
@@ -92,9 +97,9 @@ AllValues (suc n) (address e rest) = ⊥
 pub record IsIntPlace (ds : Names) (e : Tree) : Type 0 where
   pub word : List ℕ
   pub slot : Slot
-  pub array : Bool
-  pub denotes : denoted ds word ≡ Some (VariableEntity slot Int array)
+  pub denotes : denoted ds word ≡ Some (VariableEntity slot Int (is_element e))
   pub is_slot : slot_of e ≡ slot
+  pub single : (i : ℤ) → IndexIs e i → is_element e ≡ false → i ≡ pos 0
 
 -- what is called is there, and its arguments are those that it takes
 pub data IsCall (program : List Outer) (ds : Names) : List ℕ → Args → Type 0 where

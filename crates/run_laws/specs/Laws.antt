@@ -5,7 +5,7 @@ use Rattle.c_tree.specs.declared.stmt.Slot.{Slot}
 use Rattle.c_tree.specs.declared.stmt.Ty.{Ty}
 use Rattle.c_tree.specs.Tree.{Tree, Code, Outer}
 use Rattle.c_types.specs.declared.scope.Entity.TheVariants.{Variable}
-use Rattle.c_types.specs.Evidence.{IsChecked}
+use Rattle.c_types.specs.Evidence.{IsChecked, IsOrdered}
 use Rattle.c_types.specs.Formats as kinds
 use Rattle.c_types.specs.Scopes.{denoted}
 use Rattle.c_types.specs.Slots.{resolved_tree, resolved_code}
@@ -98,11 +98,21 @@ ExpressionsFindObjects = (p : List Outer) → IsChecked p → (filling : Filling
     → Finds filling p (calls filling p left) (in_calls filling p left) wanted e w
 
 -- In a run of such a program each slot that is read, written or passed names a live object of its
--- kind, and what is called is there and takes its arguments: in whatever state the run begins, and
--- whatever its holes do, as long as they leave the variables their objects.
+-- kind, what is called is there and takes its arguments, an object has a cell for each of its
+-- initialisers, and control leaves a function's body as it may: in whatever state the run begins,
+-- and whatever its holes do, as long as they leave the variables their objects.
 abbrev pub RunsFindObjects : Type 0
 RunsFindObjects = (p : List Outer) → IsChecked p → (filling : Filling) → IsSteady filling
     → (w : World) → RunFinds filling p w
+
+-- a program whose parts stand in text order, as those of a parsed source do, has no hole
+abbrev pub OrderedProgramsHaveNoHole : Type 0
+OrderedProgramsHaveNoHole = (p : List Outer) → IsOrdered p → holes p ≡ []
+
+-- where such a program has no hole, none is met in its run: whatever holes do, the run is the same
+abbrev pub NoHoleIsMet : Type 0
+NoHoleIsMet = (p : List Outer) → IsChecked p → holes p ≡ []
+    → (f g : Filling) (w : World) → run_program f p w ≡ run_program g p w
 
 -- the rules of kinds and the printing count the conversions of a format alike (C11 7.21.6.1)
 abbrev pub FormatsAgree : Type 0

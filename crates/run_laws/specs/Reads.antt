@@ -1,7 +1,8 @@
 -- In the evaluation of an expression the slot of each name that is read, written or passed names a
--- live object of its kind, what is written to is a place, and each function that is called is
--- there, takes the arguments, and has a result where one is wanted.
-use Rattle.std.specs.Prelude.{⊤, ◌≡◌, ◌≢◌, ℕ, ℤ, List, [], ◌∷◌, map, length, slice_get, codes, Some, None, Bool, true, false}
+-- live object, which has one cell where a number is meant, what is written to is a place, and each
+-- function that is called is there, takes the arguments, and has a result where one is wanted.
+use Rattle.std.specs.Prelude.{⊤, ◌≡◌, ◌≢◌, ℕ, ℤ, pos, List, [], ◌∷◌, map, length, slice_get, codes, Some, None, Bool, true, false}
+use Rattle.c_tree.specs.declared.place.Span.{Span}
 use Rattle.c_tree.specs.declared.program.Param.{Param}
 use Rattle.c_tree.specs.declared.stmt.Slot.{Slot}
 use Rattle.c_tree.specs.declared.stmt.Ty.{Ty}
@@ -30,7 +31,7 @@ Chosen false P Q = Q
 
 -- ---- objects and places
 
--- a slot names a live object, that of an array or that of a number
+-- a slot names a live object, which has one cell where no array is meant
 pub record FindsObject (w : World) (slot : Slot) (array : Bool) : Type 0 where
   pub ty : Ty
   pub has : HasObject w slot ty array
@@ -39,12 +40,12 @@ pub record FindsObject (w : World) (slot : Slot) (array : Bool) : Type 0 where
 abbrev pub FindsScalar : World → Slot → Type 0
 FindsScalar w slot = FindsObject w slot false
 
--- a slot names the object of an array
+-- a slot names a live object, which may have as many cells as an array
 abbrev pub FindsArray : World → Slot → Type 0
 FindsArray w slot = FindsObject w slot true
 
--- a place is a name or an element, and its variable has its object: that of a number for a name,
--- that of an array for an element
+-- a place is a name or an element, and its variable has its object, which has one cell where the
+-- place is a name
 abbrev pub FindsPlace : Tree → World → Type 0
 FindsPlace (name word slot s) w = FindsScalar w slot
 FindsPlace (index word slot e s) w = FindsArray w slot
@@ -68,7 +69,7 @@ pub record IsLive (w : World) (number : ℕ) (ty : Ty) : Type 0 where
   pub lives : slice_get w.objects number ≡ Some object
   pub typed : object.ty ≡ ty
 
--- a parameter takes an argument: a number, or where it is an array, a live array of its type
+-- a parameter takes an argument: a number, or where it is an array, a live object of its type
 abbrev pub Takes : Param → Argument → World → Type 0
 Takes p (Number v) w = p.array ≡ false
 Takes p (Array n) w = (p.array ≡ true) × IsLive w n p.ty
@@ -91,19 +92,30 @@ pub record IsDefinedFor (program : List Outer) (word : List ℕ) (gs : List Argu
   pub has_body : function.body ≡ Some body
   pub takes : TakesAll function.params gs w
 
--- what is called is there, and takes the arguments: a function of the library, or one that the
--- program defines
-pub data IsCallable (program : List Outer) (w : World) : List ℕ → List Argument → Type 0 where
-  getchar : IsCallable program w (codes "getchar") []
-  putchar : (v : ℤ) → IsCallable program w (codes "putchar") (Number v ∷ [])
-  abs : (v : ℤ) → IsCallable program w (codes "abs") (Number v ∷ [])
-  exit : (v : ℤ) → IsCallable program w (codes "exit") (Number v ∷ [])
-  printf : (f : List ℕ) (vs : List ℤ) → conversions f ≡ Some (length vs)
-      → IsCallable program w (codes "printf") (Format f ∷ map (λ v. Number v) vs)
-  scanf : (slot : Slot) (i : ℤ) (array : Bool) → HasObject w slot Int array
-      → IsCallable program w (codes "scanf") (Format (codes "%d") ∷ (Place slot i ∷ []))
-  own : (word : List ℕ) (gs : List Argument) → is_declared names.library word ≡ false
-      → IsDefinedFor program word gs w → IsCallable program w word gs
+-- an expression is an element of an array
+abbrev pub is_element : Tree → Bool
+is_element (index word slot e s) = true
+is_element e = false
+
+-- what is called is there, and takes what its arguments come to: a function of the library, or one
+-- that the program defines. `scanf` takes the place of an `int`, whose index is 0 where it is no
+-- element
+pub data IsCallable (program : List Outer) (w : World) :
+    List ℕ → Args → List Argument → Type 0 where
+  getchar : (args : Args) → IsCallable program w (codes "getchar") args []
+  putchar : (args : Args) (v : ℤ)
+      → IsCallable program w (codes "putchar") args (Number v ∷ [])
+  abs : (args : Args) (v : ℤ) → IsCallable program w (codes "abs") args (Number v ∷ [])
+  exit : (args : Args) (v : ℤ) → IsCallable program w (codes "exit") args (Number v ∷ [])
+  printf : (args : Args) (f : List ℕ) (vs : List ℤ) → conversions f ≡ Some (length vs)
+      → IsCallable program w (codes "printf") args (Format f ∷ map (λ v. Number v) vs)
+  scanf : (s : Span) (e : Tree) (i : ℤ) → HasObject w (slot_of e) Int (is_element e)
+      → (is_element e ≡ false → i ≡ pos 0)
+      → IsCallable program w (codes "scanf") (format (codes "%d") s (address e no_args))
+      (Format (codes "%d") ∷ (Place (slot_of e) i ∷ []))
+  own : (word : List ℕ) (args : Args) (gs : List Argument)
+      → is_declared names.library word ≡ false → IsDefinedFor program word gs w
+      → IsCallable program w word args gs
 
 -- a function that the program defines by that word has a result
 abbrev pub GivesValue : List Outer → List ℕ → Type 0
@@ -126,7 +138,9 @@ module _ (filling : Filling) (program : List Outer) (called : Called) (inside : 
         FindsArgs (params_of (definition word program)) args w
         × Then (evals filling program called (params_of (definition word program)) args w)
         (λ gs x.
-        IsCallable program x word gs × (wanted ≡ true → GivesValue program word) × inside word gs x)
+        IsCallable program x word args gs
+        × (wanted ≡ true → GivesValue program word)
+        × inside word gs x)
     Finds wanted (unary op e s) w = Finds true e w
     Finds wanted (cast ty e s) w = Finds true e w
     Finds wanted (binary op l r s) w =

@@ -3,10 +3,10 @@
 
 ghost use Rattle.run_laws.specs.Laws.{HolesAreTyped, HolesFit, NamesHaveObjects};
 ghost use Rattle.run_laws.specs.Laws.{TypedStatesShowVariables, StatementsKeepTypes, ExpressionsFindObjects};
-ghost use Rattle.run_laws.specs.Laws.{RunsFindObjects, FormatsAgree};
+ghost use Rattle.run_laws.specs.Laws.{RunsFindObjects, OrderedProgramsHaveNoHole, NoHoleIsMet, FormatsAgree};
 
-/// Wherever a run of a checked program waits for a hole, each variable that is in scope there has a live object of its
-/// type (C11 6.2.4), and each number in an object is a value of that type.
+/// Wherever a run of a checked program waits for a hole, each variable that is in scope at it (at one of them, where
+/// there are several) has a live object of its type (C11 6.2.4), and each number in an object is a value of that type.
 pub fn holes_are_typed()
     ensures objects { HolesAreTyped }
     ensures numbers { HolesFit }
@@ -24,24 +24,33 @@ pub fn typed_states_show_variables()
     ensures { TypedStatesShowVariables }
 {}
 
-/// A statement without a fault, in which each name has its slot, keeps the state typed by the scope in which it stands.
+/// Where the run goes on, a statement without a fault, in which each name has its slot, keeps the state typed by the
+/// scope in which it stands.
 pub fn statements_keep_types()
     ensures { StatementsKeepTypes }
 {}
 
 /// In the evaluation of an expression without a fault, in which each name has its slot, each slot that is read, written
-/// or passed names a live object of its kind, what is written to is a place, and what is called is there, takes its
-/// arguments, and has a result where one is wanted.
+/// or passed names a live object, which has one cell where a number is meant, what is written to is a place, and what
+/// is called is there, takes its arguments, and has a result where one is wanted.
 pub fn expressions_find_objects()
     ensures { ExpressionsFindObjects }
 {}
 
-/// In a run of a checked program each slot that is read, written or passed names a live object of its kind, what is
-/// written to is a place, and what is called is there, takes its arguments, and has a result where one is wanted: in
-/// the declarations of file scope, in `main`, which is defined without parameters, and in each function that is called.
-/// So no such run ends as trapped because a name, a place, a call or an array's list is ill-formed.
+/// In a run of a checked program each slot that is read, written or passed names a live object, which has one cell where
+/// a number is meant, what is written to is a place, what is called is there, takes its arguments, and has a result where
+/// one is wanted, an object has a cell for each initialiser, and control leaves a function's body at its end or by a `return` that fits its
+/// result: in the declarations of file scope, in `main`, which is defined without parameters, and in each function that
+/// is called. So no such run ends as trapped because a part of its tree is ill-formed, unless that part is a hole.
 pub fn runs_find_objects()
     ensures { RunsFindObjects }
+{}
+
+/// A program whose parts stand in text order, as those of a parsed source do, has no hole. Where a checked program has
+/// none, what holes do makes no difference to its run.
+pub fn ordered_programs_have_no_hole()
+    ensures none { OrderedProgramsHaveNoHole }
+    ensures unmet { NoHoleIsMet }
 {}
 
 /// The rules of kinds and the printing count the conversions of a format alike.

@@ -5,5 +5,6 @@ mod laws;
 
 pub use laws::{
     expressions_find_objects, formats_agree, holes_are_typed, names_have_objects,
-    runs_find_objects, statements_keep_types, typed_states_show_variables,
+    ordered_programs_have_no_hole, runs_find_objects, statements_keep_types,
+    typed_states_show_variables,
 };
