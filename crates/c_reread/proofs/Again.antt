@@ -14,8 +14,8 @@ use Rattle.c_location.specs.Changes.{replaced as with_new, combined, guarded as 
 use Rattle.c_location.specs.Rewrites.{Rewrite, rewritten}
 use Rattle.c_grammar.specs.declared.nonterminal.Nonterminal.TheVariants.{Expression, Assignment, Primary}
 use Rattle.c_grammar.specs.Grammar.{Tokens}
-use Rattle.patch_print.specs.Printed.{symbol, printed, parenthesized}
-use Rattle.patch_print.specs.Spliced.{spliced, replaced, old_text, joined, guarded}
+use Rattle.patch_text.specs.Printed.{symbol, printed, parenthesized}
+use Rattle.patch_text.specs.Spliced.{spliced, replaced, old_text, joined, guarded}
 use Rattle.c_splice.specs.Seams.{IsLoose, IsTight}
 use Rattle.c_splice.specs.Edges.{ends_other, ends_query}
 use Rattle.c_splice.specs.Words.{AllWorded}

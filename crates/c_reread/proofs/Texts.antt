@@ -10,7 +10,7 @@ use Rattle.c_lex.specs.Places.{IsNowhere, is_refused}
 use Rattle.c_lex.specs.Tokens.{Macros}
 use Rattle.c_tree.specs.declared.expr.BinOp.{BinOp}
 use Rattle.c_tree.specs.declared.expr.BinOp.TheVariants.{Mul}
-use Rattle.patch_print.specs.Printed.{symbol, parenthesized}
+use Rattle.patch_text.specs.Printed.{symbol, parenthesized}
 use Rattle.c_splice.specs.Seams.{IsLoose, IsTight}
 use Rattle.c_splice.specs.Edges.{begins_plain, ends_query}
 use Rattle.c_splice.specs.Replaced.{Fits}

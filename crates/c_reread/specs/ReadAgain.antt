@@ -12,7 +12,7 @@ use Rattle.c_location.specs.Locations.{locations}
 use Rattle.c_location.specs.Rewrites.{rewritten}
 use Rattle.c_grammar.specs.Grammar.{Tokens}
 use Rattle.c_grammar.specs.Programs.{Derives}
-use Rattle.patch_print.specs.Spliced.{replaced, joined, guarded}
+use Rattle.patch_text.specs.Spliced.{replaced, joined, guarded}
 use Rattle.c_splice.specs.Words.{AllWorded}
 use Rattle.printed_tokens.specs.PrintedKinds.{Printable}
 
@@ -26,9 +26,9 @@ pub record IsTextOf (text : Bytes) (p : List Outer) : Type 0 where
   pub derives : Derives room tokens found
   pub is_same : bare_program found ≡ bare_program p
 
--- What the texts of patches at a location of a source are read as, by each change that a patch
--- makes there with an expression of which each word is its token. The macros are those of the
--- source's head; with them, each word of the source is its token.
+-- There are macros with which each word of the source is its token. For each change that a patch
+-- can make at a location of the source, with an expression of which each word is its token with
+-- these macros, the text with the change is read as the program with the change.
 pub record ReadAgain (source : Bytes) (tokens : Tokens) (p : List Outer) (l : Loc) : Type 0 where
   pub macros : Macros
   pub words : AllWorded macros tokens

@@ -1,14 +1,10 @@
-//! The text of a patch: a pure expression as C text, a source with what a patch puts in place of a part, and the line that
-//! says what the patch changes.
+//! The text of a patch: the source with an edit made at a location, which is read again as the
+//! edited program, and the line that says what a patch changes.
 #![tactic(auto)]
 
 mod line;
-mod operator;
-mod position;
-mod print;
-mod splice;
+mod source;
 
-pub use line::{Form, edit_line};
-pub use position::line_and_column;
-pub use print::print_expr;
-pub use splice::{splice_expr, splice_guarded, splice_joined};
+pub use line::edit_line;
+pub use patch_text::print_expr;
+pub use source::splice;

@@ -1,62 +1,20 @@
 //! The line that says what a patch changes.
 
-ghost use Rattle.std.specs.Prelude.{◌≡◌, ◌++◌, OnOk, IfOk, decimal};
-ghost use Rattle.c_tree.specs.Views.{tree};
-ghost use Rattle.patch_print.specs.Lines.{place_of, word_of, edit_line as line_of_edit};
+ghost use Rattle.std.specs.Prelude.{◌≡◌, IfOk};
+ghost use Rattle.c_types.specs.Shown.{tree_of};
+ghost use Rattle.patch_space.specs.Shown.{change as seen, located_change as seen_there};
+ghost use Rattle.patch_print.specs.Lines.{changed_line as line_of, line_with_change as line_of_any, line_of_rank};
 
-use crate::position::line_and_column;
-use crate::print::put_parenthesized;
-use c_tree::{Expr, NoMemory, Span, Text};
-use itoa::Buffer;
+use c_location::Change;
+use c_tree::{Loc, NoMemory, Text};
+use c_types::Typed;
+use patch_space::{Space, changed};
+use patch_text::Form;
 use std::alloc::Global;
 
-/// What a patch does with the part at its location.
-#[derive(Clone, Copy, Debug, PartialEq, Eq)]
-pub enum Form {
-    /// An expression is put in its place.
-    Replace,
-    /// The condition is joined to a bound by `&&`.
-    And,
-    /// The condition is joined to a bound by `||`.
-    Or,
-    /// An `if` with a bound is put before the statement.
-    Guard,
-}
-
-/// The word of the form.
-fn word(form: Form) -> &'static [u8]
-    ensures { result.now ≡ word_of form }
-{
-    match form {
-        Form::Replace => b"replace",
-        Form::And => b"and",
-        Form::Or => b"or",
-        Form::Guard => b"guard",
-    }
-}
-
-/// Appends the digits of the number.
-fn put_number(text: &mut Vec<u8>, n: usize) -> Result<(), NoMemory>
-    ensures { OnOk result (text.new.items ≡ text.old.items ++ decimal n) }
-{
-    let mut buffer = Buffer::new();
-    text.extend_from_slice(buffer.format(n).as_bytes())
-}
-
-/// Appends the place: its line, its column and its length.
-fn put_place(text: &mut Vec<u8>, source: &[u8], at: Span) -> Result<(), NoMemory>
-    ensures { OnOk result (text.new.items ≡ text.old.items ++ place_of source.now at) }
-{
-    let (line, column) = line_and_column(source, at.from);
-    put_number(text, line)?;
-    text.extend_from_slice(b":")?;
-    put_number(text, column)?;
-    text.extend_from_slice(b"+")?;
-    put_number(text, at.to.saturating_sub(at.from) as usize)
-}
-
-/// The line of a change of the text of this span: where it is, what it costs, its form, and the new expression or bound
-/// in parentheses. A span that begins behind the source's end has the line and the column of the end.
+/// The line that says what the patch of this rank in the space changes in the source of the
+/// program: where, at what cost, how, and by which expression. Where the space has no such patch,
+/// or its edit can't be made, the line is empty; in a space of the program's own each can be made.
 ///
 /// # Errors
 ///
@@ -64,21 +22,51 @@ fn put_place(text: &mut Vec<u8>, source: &[u8], at: Span) -> Result<(), NoMemory
 pub fn edit_line(
     alloc: Global,
     source: &[u8],
-    at: Span,
-    cost: u8,
-    form: Form,
-    e: &Expr,
+    space: &Space,
+    i: u32,
+    program: &Typed,
 ) -> Result<Text, NoMemory>
-    ensures { IfOk result (λ text. text ≡ line_of_edit source.now at cost form (tree e.now)) }
+    ensures { IfOk result (λ line.
+        line ≡ line_of_rank source.now (tree_of program.now) space.now i) }
 {
-    let mut text = Vec::new(alloc);
-    put_place(&mut text, source, at)?;
-    text.extend_from_slice(b" cost ")?;
-    put_number(&mut text, cost as usize)?;
-    text.extend_from_slice(b" ")?;
-    text.extend_from_slice(word(form))?;
-    text.extend_from_slice(b" ")?;
-    put_parenthesized(&mut text, e)?;
-    text.extend_from_slice(b"\n")?;
-    Ok(Text::new(text))
+    if i >= space.len() {
+        return Ok(Text::new(Vec::new(alloc)));
+    }
+    let there = changed(alloc, program, space, i)?;
+    let cost = space.patch(i).cost;
+    line_with_change(alloc, source, cost, &there)
+}
+
+/// The line of the change of this cost at the location, if there is one.
+fn line_with_change(
+    alloc: Global,
+    source: &[u8],
+    cost: u8,
+    there: &Option<(Loc, Change)>,
+) -> Result<Text, NoMemory>
+    ensures { IfOk result (λ line. line ≡ line_of_any source.now cost (seen_there there.now)) }
+{
+    match there {
+        None => Ok(Text::new(Vec::new(alloc))),
+        Some((loc, change)) => changed_line(alloc, source, cost, *loc, change),
+    }
+}
+
+/// The line of the change of this cost at the location.
+fn changed_line(
+    alloc: Global,
+    source: &[u8],
+    cost: u8,
+    loc: Loc,
+    change: &Change,
+) -> Result<Text, NoMemory>
+    ensures { IfOk result (λ line. line ≡ line_of source.now cost loc (seen change.now)) }
+{
+    let (form, e) = match change {
+        Change::Replaced(new) => (Form::Replace, new),
+        Change::Narrowed(bound) => (Form::And, bound),
+        Change::Widened(bound) => (Form::Or, bound),
+        Change::Guarded(test) => (Form::Guard, test),
+    };
+    patch_text::edit_line(alloc, source, loc.at, cost, form, e)
 }

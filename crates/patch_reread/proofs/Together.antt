@@ -36,7 +36,8 @@ use Rattle.printed_tokens.specs.Sourced.{SourcedProgram}
 use Rattle.c_reread.specs.ReadAgain.{IsTextOf, ReadAgain, TextsReadAgain}
 use Rattle.bare_laws.specs.Laws.{ChecksAs, CheckedAlike}
 use Rattle.patch_reread.specs.Suits.{Suits}
-use Rattle.patch_reread.specs.ReadsAgain.{ReadsAs, IsSourceOf, changed_text, text_with_change, patched_text}
+use Rattle.patch_reread.specs.ReadsAgain.{ReadsAs, IsSourceOf}
+use Rattle.patch_reread.specs.Texts.{changed_text, text_with_change, patched_text}
 use Rattle.patch_reread.proofs.LocationsAlike.{locations-same}
 use Rattle.patch_reread.proofs.RewritingAlike.{Unslots, replaced-unslots, combined-unslots, guarded-unslots, rewritten-same}
 use Rattle.patch_reread.proofs.WordsAlike.{sourced_alike}

@@ -1,2 +1,3 @@
 pub mod Suits
 pub mod ReadsAgain
+pub mod Texts

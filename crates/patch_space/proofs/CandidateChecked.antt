@@ -13,7 +13,7 @@ use Rattle.patch_space.proofs.CandidatesSee.{candidates_shown}
 use Rattle.patch_space.proofs.EditedFaults.{SeesFor, rewrite_by, edited_faultless}
 use Rattle.patch_space.proofs.EditedSlots.{edited_is_resolved}
 use Rattle.patch_space.proofs.NewTrees.{Sees}
-use Rattle.patch_space.proofs.SeesThere.{InProgram}
+use Rattle.rewrite_laws.proofs.SeesThere.{InProgram}
 use Rattle.patch_space.proofs.VisibleThere.{ShowsAll, ShowsFor, visible_there}
 use Rattle.patch_space.proofs.WeakerThere.{weaker_there}
 

@@ -16,10 +16,10 @@ use Rattle.schemas.specs.declared.edit.Edit.{Edit}
 use Rattle.schemas.specs.declared.edit.Edit.TheVariants.{Op, Leaf, Plus, Side, Negate, Take, Narrow, Widen, Guard}
 use Rattle.schemas.specs.Edits.{bound_tree, edited}
 use Rattle.std.specs.Prelude.{Option}
-use Rattle.patch_space.proofs.NewTrees.{IsNumber, Sees, Denotes, edited_number, bound_number}
-use Rattle.patch_space.proofs.NumbersThere.{And, in_program}
-use Rattle.patch_space.proofs.SeesThere.{InProgram}
-use Rattle.patch_space.proofs.ThereFaults.{KeepsThere, program-kept}
+use Rattle.patch_space.proofs.NewTrees.{Sees, Denotes, edited_number, bound_number}
+use Rattle.rewrite_laws.proofs.NumbersThere.{IsNumber, And, in_program}
+use Rattle.rewrite_laws.proofs.SeesThere.{InProgram}
+use Rattle.rewrite_laws.proofs.ThereFaults.{KeepsThere, program-kept}
 
 -- an `if` with the bound round a statement, in a block
 abbrev pub under : Bound → Code → Code

@@ -12,11 +12,11 @@ use Rattle.schemas.specs.declared.edit.Edit.{Edit}
 use Rattle.schemas.specs.declared.edit.Edit.TheVariants.{Op, Leaf, Plus, Side, Negate, Take, Narrow, Widen, Guard}
 use Rattle.schemas.specs.Edits.{edited}
 use Rattle.patch_space.proofs.NewTrees.{Sees, Denotes, edited_resolved, bound_resolved}
-use Rattle.patch_space.proofs.NumbersThere.{And}
+use Rattle.rewrite_laws.proofs.NumbersThere.{And}
 use Rattle.patch_space.proofs.EditedFaults.{SeesFor, under, edited_code, rewrite_by, keeps}
-use Rattle.patch_space.proofs.SeesThere.{InProgram}
-use Rattle.patch_space.proofs.ThereFaults.{function_declaration-kept}
-use Rattle.patch_space.proofs.ThereSlots.{KeepsSlots, program-slots}
+use Rattle.rewrite_laws.proofs.SeesThere.{InProgram}
+use Rattle.rewrite_laws.proofs.ThereFaults.{function_declaration-kept}
+use Rattle.rewrite_laws.proofs.ThereSlots.{KeepsSlots, program-slots}
 
 under_resolved : (ds : List Declaration) (n : ℕ) (b : Bound) (c : Code) → Denotes ds b.left → Denotes ds b.right → resolved_code ds n c ≡ c
     → resolved_code ds n (under b c) ≡ under b c

@@ -1,14 +1,10 @@
 mod ChangeLemmas
 mod SpanLemmas
 mod SpaceLemmas
-mod CostLemmas
+pub mod EachPatch
 mod RankLemmas
 mod NewTrees
-mod SeesThere
 mod WeakerThere
-mod NumbersThere
-mod ThereFaults
-mod ThereSlots
 mod EditedFaults
 mod EditedSlots
 mod CandidatesSee

@@ -30,6 +30,7 @@ use Rattle.schemas.specs.declared.edit.Edit.TheVariants.{Op, Leaf, Plus, Side, N
 use Rattle.schemas.specs.Atoms.{one}
 use Rattle.schemas.specs.Edits.{with_operator, by_one, side_by_one, bound_tree, edited}
 use Rattle.schemas.specs.Leaves.{atom_tree, leaves, with_leaf}
+use Rattle.rewrite_laws.proofs.NumbersThere.{IsNumber}
 
 -- an atom denotes a variable that is a number, with its slot, where it is a variable
 abbrev pub Denotes : List Declaration → Atom → Type 0
@@ -47,11 +48,6 @@ Sees ds (Take a) = Denotes ds a
 Sees ds (Narrow b) = Denotes ds b.left × Denotes ds b.right
 Sees ds (Widen b) = Denotes ds b.left × Denotes ds b.right
 Sees ds (Guard b) = Denotes ds b.left × Denotes ds b.right
-
--- an expression is a number without a fault
-pub record IsNumber (ds : List Declaration) (e : Tree) : Type 0 where
-  pub number : as_number ds e ≡ []
-  pub faultless : faults ds e ≡ []
 
 module _ (ds : List Declaration) where
   -- a number can be evaluated as a void expression

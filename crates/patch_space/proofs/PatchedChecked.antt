@@ -1,8 +1,6 @@
 -- A patch of a checked program in text order makes a checked program.
-use Rattle.std.proofs.Common.{◌≡◌, ℕ, zero, suc, ◌+◌, List, [], ◌∷◌, map, drop, Option, Some, None, refl, sym, ap, subst, ◌∙◌, add-one, Contains, All}
+use Rattle.std.proofs.Common.{◌≡◌, ℕ, List, Option, Some, None, refl, sym, ap, subst, ◌∙◌, Contains}
 use Rattle.std.specs.Prelude.{slice_get, option_map}
-use Rattle.std.specs.List.{flat_map}
-use Rattle.std.proofs.lemmas.List.Elements.{All-nil, All-cons, All-head, All-tail, All-append, All-take, All-contains, All-contains_itself}
 use Rattle.c_tree.specs.declared.place.Loc.{Loc}
 use Rattle.c_tree.specs.Parts.{span_of, span_of_code}
 use Rattle.c_tree.specs.Tree.{Outer}
@@ -17,11 +15,12 @@ use Rattle.schemas.specs.Candidates.{candidates}
 use Rattle.schemas.specs.Edits.{bound_tree, edited}
 use Rattle.scope_laws.specs.Laws.{ScopesAgree}
 use Rattle.patch_space.specs.declared.patch.Patch.{Patch}
-use Rattle.patch_space.specs.Space.{costs, patch_of, patches_from, patches, space, Change, replaced, narrowed, widened, guarded, rewrite_of, change_of, change_there, changed_at, with_change, applied}
+use Rattle.patch_space.specs.Space.{patch_of, Change, replaced, narrowed, widened, guarded, rewrite_of, change_of, change_there, changed_at, with_change, applied}
 use Rattle.patch_space.specs.Contents.{Contents, IsSpaceOf}
 use Rattle.patch_space.specs.Laws.{PatchedIsChecked}
 use Rattle.patch_space.proofs.CandidateChecked.{candidate_checked}
 use Rattle.patch_space.proofs.EditedFaults.{rewrite_by}
+use Rattle.patch_space.proofs.EachPatch.{each_patch, each_of_space}
 use Rattle.patch_space.proofs.FoundPart.{part_among}
 
 module _ (names : EachNamesOnePlace) (agree : ScopesAgree) (p : List Outer) (h : IsChecked p) (text : IsOrdered p) where
@@ -65,52 +64,17 @@ module _ (names : EachNamesOnePlace) (agree : ScopesAgree) (p : List Outer) (h :
   edit_checked : (l : Loc) (cost : ℕ) (edit : Edit) → Contains (candidates p l cost) edit → IsChecked (with_change p (changed_at p edit (Some l)))
   edit_checked l cost edit among = there_checked l edit (part_at l p) refl (candidate_checked p l cost edit among agree h text)
 
-  abbrev MakesChecked : List Loc → Patch → Type 0
-  MakesChecked all patch = IsChecked (applied p all patch)
-
-  -- the location of a number is the first of those that are left after as many
-  nth : {A : Type 0} (n : ℕ) (xs : List A) (y : A) (ys : List A) → drop n xs ≡ y ∷ ys → slice_get xs n ≡ Some y
-  nth zero xs y ys is = ap (λ zs. slice_get zs 0) is
-  nth (suc n) [] y ys is = absurd (cc)
-  nth (suc n) (x ∷ xs) y ys is = nth n xs y ys is
-
-  after : {A : Type 0} (n : ℕ) (xs : List A) (y : A) (ys : List A) → drop n xs ≡ y ∷ ys → drop (suc n) xs ≡ ys
-  after zero xs y ys is = ap (λ zs. drop 1 zs) is
-  after (suc n) [] y ys is = absurd (cc)
-  after (suc n) (x ∷ xs) y ys is = after n xs y ys is
-
-  -- so do the patches at a location
-  edits_checked : (all : List Loc) (l : Loc) (cost n : ℕ) → slice_get all n ≡ Some l → (edits : List Edit) → All (Contains (candidates p l cost)) edits
-      → All (MakesChecked all) (map (patch_of cost n) edits)
-  edits_checked all l cost n is [] among = All-nil (MakesChecked all)
-  edits_checked all l cost n is (edit ∷ edits) among =
-      let first : IsChecked (with_change p (changed_at p edit (Some l))) = edit_checked l cost edit (All-head (Contains (candidates p l cost)) edit edits among) in
-      All-cons (MakesChecked all) (patch_of cost n edit) (map (patch_of cost n) edits)
-      (subst (λ o. IsChecked (with_change p (changed_at p edit o))) (sym is) first)
-      (edits_checked all l cost n is edits (All-tail (Contains (candidates p l cost)) edit edits among))
-
-  -- and those of a cost
-  cost_checked : (all : List Loc) (cost n : ℕ) (ls : List Loc) → drop n all ≡ ls → All (MakesChecked all) (patches_from p cost n ls)
-  cost_checked all cost n [] is = All-nil (MakesChecked all)
-  cost_checked all cost n (l ∷ ls) is =
-      All-append (MakesChecked all) (map (patch_of cost n) (candidates p l cost)) (patches_from p cost (n + 1) ls)
-      (edits_checked all l cost n (nth n all l ls is) (candidates p l cost) (All-contains_itself (candidates p l cost)))
-      (cost_checked all cost (n + 1) ls (ap (λ k. drop k all) (add-one n) ∙ after n all l ls is))
-
-  costs_checked : (all : List Loc) (cs : List ℕ) → All (MakesChecked all) (flat_map (λ cost. patches_from p cost 0 all) cs)
-  costs_checked all [] = All-nil (MakesChecked all)
-  costs_checked all (c ∷ cs) =
-      All-append (MakesChecked all) (patches_from p c 0 all) (flat_map (λ cost. patches_from p cost 0 all) cs) (cost_checked all c 0 all refl) (costs_checked all cs)
-
 -- each patch of a checked program in text order makes a checked program
 pub patched_checked : EachNamesOnePlace → ScopesAgree → PatchedIsChecked
-patched_checked names agree p h text = costs_checked names agree p h text (locations p) costs
+patched_checked names agree p h text = each_patch p (λ patch. IsChecked (applied p (locations p) patch)) made
+  where
+    made : (l : Loc) (cost n : ℕ) (edit : Edit) → slice_get (locations p) n ≡ Some l → Contains (candidates p l cost) edit
+        → IsChecked (applied p (locations p) (patch_of cost n edit))
+    made l cost n edit is among = subst (λ o. IsChecked (with_change p (changed_at p edit o))) (sym is) (edit_checked names agree p h text l cost edit among)
 
 -- so does each of a space of the program
 pub space_checked : PatchedIsChecked → (p : List Outer) (s : Contents) → IsChecked p → IsOrdered p → IsSpaceOf p s → (patch : Patch) → Contains s.patches patch
     → IsChecked (applied p s.locations patch)
 space_checked law p s h text own patch among =
-    let all : All (λ patch. IsChecked (applied p (locations p) patch)) (space own.max p) =
-    All-take (λ patch. IsChecked (applied p (locations p) patch)) own.max (patches p) (law p h text) in
     subst (λ ls. IsChecked (applied p ls patch)) (sym own.located)
-    (All-contains (λ patch. IsChecked (applied p (locations p) patch)) (space own.max p) patch all (subst (λ ps. Contains ps patch) own.ranked among))
+    (each_of_space p s own (λ q. IsChecked (applied p (locations p) q)) (law p h text) patch among)

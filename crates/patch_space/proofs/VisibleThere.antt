@@ -24,7 +24,7 @@ use Rattle.scope_laws.specs.Seen.{IsMeant}
 use Rattle.scope_laws.specs.Spots.{spot, tree_spots, args_spots, option_spots, initial_spots, variables_spots, first_spots, code_spots, body_spots, definition_spots, outers_spots}
 use Rattle.scope_laws.specs.Laws.{SeesScope, ScopesAgree}
 use Rattle.scope_laws.proofs.Every.{Every, head, tail, left, right}
-use Rattle.patch_space.proofs.SeesThere.{InAssigned, InTree, InArgs, InPart, InOption, InStep, InTrees, InInitial, InVariables, InFirst, InCode, InBody, InDefinition, InOuters, InProgram}
+use Rattle.rewrite_laws.proofs.SeesThere.{InAssigned, InTree, InArgs, InPart, InOption, InStep, InTrees, InInitial, InVariables, InFirst, InCode, InBody, InDefinition, InOuters, InProgram}
 
 -- the declarations show all that is visible at the location
 abbrev pub ShowsAll : List Outer → Loc → List Declaration → Type 0

@@ -10,7 +10,7 @@ use Rattle.c_types.specs.declared.scope.Declaration.{Declaration}
 use Rattle.c_types.specs.Library.{library}
 use Rattle.c_types.specs.Programs.{function_declaration, params_declared}
 use Rattle.c_types.specs.Statements.{variable_declaration, declared, first_declared}
-use Rattle.patch_space.proofs.SeesThere.{InAssigned, InTree, InArgs, InPart, InOption, InStep, InTrees, InInitial, InVariables, InFirst, InCode, InBody, InDefinition, InOuters, InProgram}
+use Rattle.rewrite_laws.proofs.SeesThere.{InAssigned, InTree, InArgs, InPart, InOption, InStep, InTrees, InInitial, InVariables, InFirst, InCode, InBody, InDefinition, InOuters, InProgram}
 
 module _ (l : Loc) (S T : List Declaration → Tree → Type 0) (C D : List Declaration → Type 0) (weak : (ds : List Declaration) (e : Tree) → S ds e → T ds e) (weak_code : (ds : List Declaration) → C ds → D ds) where
   module _ (ds : List Declaration) where

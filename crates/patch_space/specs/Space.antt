@@ -1,10 +1,8 @@
 -- The patches of a program by rank, and what each of them makes of it.
-use Rattle.std.specs.Prelude.{ℕ, ◌+◌, Bool, nat_eq, nat_le, List, [], ◌∷◌, ◌++◌, map, take, slice_get, Option, Some, None, option_map}
+use Rattle.std.specs.Prelude.{ℕ, ◌+◌, List, [], ◌∷◌, ◌++◌, map, take, slice_get, Option, Some, None, option_map}
 use Rattle.std.specs.List.{flat_map}
 use Rattle.c_tree.specs.declared.expr.BinOp.TheVariants.{Both, Either}
 use Rattle.c_tree.specs.declared.place.Loc.{Loc}
-use Rattle.c_tree.specs.declared.place.LocKind.{LocKind}
-use Rattle.c_tree.specs.declared.place.LocKind.TheVariants as which
 use Rattle.c_tree.specs.Parts.{span_of, span_of_code}
 use Rattle.c_tree.specs.Tree.{Tree, Outer}
 use Rattle.c_location.specs.Changes.{replaced as with_new, combined, guarded as with_test}
@@ -19,13 +17,6 @@ use Rattle.patch_space.specs.declared.patch.Patch.{Patch}
 -- the costs that patches have, in order
 abbrev pub costs : List ℕ
 costs = 1 ∷ 2 ∷ 3 ∷ 4 ∷ 5 ∷ 6 ∷ []
-
--- whether locations of a kind have patches of a cost: conditions those of costs 1 to 5, right sides
--- those of costs 1 to 3, statements those of cost 6
-abbrev pub has_cost : LocKind → ℕ → Bool
-has_cost which.Cond cost = nat_le cost 5
-has_cost which.Right cost = nat_le cost 3
-has_cost which.Guard cost = nat_eq cost 6
 
 -- the patch that makes an edit at a location, by the location's number
 abbrev pub patch_of : ℕ → ℕ → Edit → Patch

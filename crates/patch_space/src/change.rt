@@ -1,6 +1,6 @@
 //! What a patch makes of a program.
 
-ghost use Rattle.std.specs.Prelude.{◌≡◌, ◌<◌, length, slice_get, Some, IfOk, option_map};
+ghost use Rattle.std.specs.Prelude.{◌≡◌, ◌<◌, length, slice_get, Some, IsSome, IfOk, option_map};
 ghost use Rattle.c_location.specs.Locations.{expression, statement};
 ghost use Rattle.c_location.specs.Shown.{lent};
 ghost use Rattle.c_tree.specs.Views.{tree, code, program as tree_program};
@@ -10,7 +10,7 @@ ghost use Rattle.patch_space.specs.Contents.{IsSpaceOf};
 ghost use Rattle.patch_space.specs.Shown.{change, located_change as shown};
 ghost use Rattle.patch_space.specs.Space.{change_of as change_by, changed_at as change_at_location, changed as change_of_patch, with_change as changed_program, applied};
 
-use crate::laws::patched_is_checked;
+use crate::laws::{patched_is_checked, patches_change};
 use crate::patch::Patch;
 use crate::space::Space;
 use c_location::{Change, Part, change_at, part_at};
@@ -61,7 +61,7 @@ fn change_of(alloc: Global, part: &Part, edit: &Edit) -> Result<Option<Change>, 
 }
 
 /// The location and the change of the edit that is made there, if it can be made.
-fn changed_at(
+fn located_change(
     alloc: Global,
     program: &Program,
     location: Loc,
@@ -79,7 +79,8 @@ fn changed_at(
     }
 }
 
-/// The location and the change of the patch, if the program has such a location and the edit can be made there.
+/// The location and the change of the patch, if the program has such a location and the edit can be
+/// made there.
 fn changed_by(
     alloc: Global,
     program: &Program,
@@ -91,7 +92,7 @@ fn changed_by(
 {
     match locations.get(patch.loc as usize) {
         None => Ok(None),
-        Some(location) => changed_at(alloc, program, *location, &patch.edit),
+        Some(location) => located_change(alloc, program, *location, &patch.edit),
     }
 }
 
@@ -115,7 +116,8 @@ fn with_change(
     }
 }
 
-/// The program that the patch makes, of which the caller shows that it is checked: a copy, with the one part changed.
+/// The program that the patch makes, of which the caller shows that it is checked: a copy, with the
+/// one part changed.
 fn apply_patch(
     alloc: Global,
     program: &Program,
@@ -131,8 +133,26 @@ fn apply_patch(
     Ok(Typed::new(patched))
 }
 
-/// The location at which the patch of this rank changes the program, and the change that it makes there. There is
-/// none only if the space isn't one of this program.
+/// The location, and the change that the edit makes there of the program. There is none where the
+/// program has no such location, or the edit can't be made there.
+///
+/// # Errors
+///
+/// `NoMemory` where memory runs out.
+pub fn changed_at(
+    alloc: Global,
+    program: &Typed,
+    location: &Loc,
+    edit: &Edit,
+) -> Result<Option<(Loc, Change)>, NoMemory>
+    ensures { IfOk result (λ r. shown r ≡
+        change_at_location (tree_of program.now) edit.now (Some location.now)) }
+{
+    located_change(alloc, program.program(), *location, edit)
+}
+
+/// The location at which the patch of this rank changes the program, and the change that it makes
+/// there. There is one wherever the space is the program's own.
 ///
 /// # Errors
 ///
@@ -144,16 +164,18 @@ pub fn changed(
     i: u32,
 ) -> Result<Option<(Loc, Change)>, NoMemory>
     requires { i < length space.now.patches }
-    ensures { IfOk result (λ r.
+    ensures made { IfOk result (λ r.
         option_map (change_of_patch (tree_of program.now) space.now.locations)
         (slice_get space.now.patches i) ≡ Some (shown r)) }
+    ensures own { IsSpaceOf (tree_of program.now) space.now → IfOk result (λ r. IsSome r) }
 {
     let patch = space.patch(i);
+    patches_change();
     changed_by(alloc, program.program(), space.all_locations(), patch)
 }
 
-/// The program that the patch of this rank makes of one in text order, as `check` gives it, whose space this is. The
-/// new program needn't be in text order.
+/// The program that the patch of this rank makes of one in text order, as `check` gives it, whose
+/// space this is. The new program needn't be in text order.
 ///
 /// # Errors
 ///

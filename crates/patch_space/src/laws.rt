@@ -1,8 +1,9 @@
-//! The law of patched programs, as the contract of a function.
+//! The laws of patched programs, each as the contract of a function.
 
-ghost use Rattle.patch_space.specs.Laws.{PatchedIsChecked};
+ghost use Rattle.patch_space.specs.Laws.{PatchedIsChecked, PatchesChange};
 
 use c_location::each_names_one_place;
+use schemas::candidates_can_be_made;
 use scope_laws::scopes_agree;
 
 /// What each of its patches makes of a checked program in text order is a checked program: it has no fault of scopes
@@ -13,4 +14,11 @@ pub fn patched_is_checked()
 {
     each_names_one_place();
     scopes_agree();
+}
+
+/// Each patch of a program changes it: the program has its location, and its edit can be made there.
+pub fn patches_change()
+    ensures { PatchesChange }
+{
+    candidates_can_be_made();
 }

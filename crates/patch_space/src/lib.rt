@@ -8,8 +8,8 @@ mod patch;
 mod ranks;
 mod space;
 
-pub use change::{apply, changed};
+pub use change::{apply, changed, changed_at};
 pub use fault::SpaceFault;
-pub use laws::patched_is_checked;
+pub use laws::{patched_is_checked, patches_change};
 pub use patch::Patch;
 pub use space::Space;

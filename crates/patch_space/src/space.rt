@@ -1,14 +1,16 @@
 //! The patches of a program by rank.
 
-ghost use Rattle.std.specs.Prelude.{◌≡◌, ◌↔◌, ◌<◌, ◌≤◌, [], ◌++◌, length, map, take, slice_get, IsTrue, Some, IfOk, IfErr, OnOk};
+ghost use Rattle.std.specs.Prelude.{◌≡◌, ◌↔◌, ◌<◌, ◌≤◌, [], List, ◌++◌, length, map, take, slice_get, IsTrue, IsFalse, Some, IfOk, IfErr, OnOk};
 ghost use Rattle.std.specs.List.{flat_map};
 ghost use Rattle.c_location.specs.Locations.{locations as locations_of};
+ghost use Rattle.c_tree.specs.declared.place.Loc.{Loc};
+ghost use Rattle.c_tree.specs.Tree.{Outer};
 ghost use Rattle.c_types.specs.Shown.{tree_of};
 ghost use Rattle.schemas.specs.Candidates.{candidates as candidates_of};
 ghost use Rattle.patch_space.specs.Contents.{IsSpaceOf};
 ghost use Rattle.patch_space.specs.Faults.{Causes};
 ghost use Rattle.patch_space.specs.Ranks.{ranks_at};
-ghost use Rattle.patch_space.specs.Space.{costs, has_cost as has_cost_of, patch_of, patches_from, space};
+ghost use Rattle.patch_space.specs.Space.{costs, patch_of, patches_from, space};
 
 use crate::fault::SpaceFault;
 use crate::patch::Patch;
@@ -58,7 +60,8 @@ impl Space {
         ensures located { IfOk result (λ s. s.locations ≡ locations_of (tree_of program.now)) }
         ensures own { IfOk result (IsSpaceOf (tree_of program.now)) }
         ensures few { IfOk result (λ s. length s.locations ≤ 4096) }
-        ensures refused { IfErr result (λ fault. Causes fault (locations_of (tree_of program.now))) }
+        ensures refused { IfErr result (λ fault.
+            Causes fault (locations_of (tree_of program.now))) }
     {
         let locations = located(alloc, program)?;
         let patches = first_patches(alloc, program, &locations, max as usize)?;
@@ -136,9 +139,10 @@ fn located(alloc: Global, program: &Typed) -> Result<Vec<Loc>, SpaceFault>
     }
 }
 
-/// Whether locations of this kind have patches of this cost.
+/// Whether locations of this kind have patches of this cost: where not, they have no candidates.
 fn has_cost(kind: LocKind, cost: u8) -> bool
-    ensures { result ≡ has_cost_of kind cost }
+    ensures { IsFalse result → (program : List Outer) (location : Loc)
+        → location.kind ≡ kind → candidates_of program location cost ≡ [] }
 {
     match kind {
         LocKind::Cond => cost <= 5,

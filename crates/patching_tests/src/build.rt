@@ -12,7 +12,7 @@ use c_tree::{
     Start, Stmt, StmtNode, Text, Ty,
 };
 use c_types::{Typed, check};
-use patch_print::{splice_expr, splice_guarded, splice_joined};
+use patch_text::{splice_expr, splice_guarded, splice_joined};
 use std::alloc::Global;
 use std::test::Fail;
 

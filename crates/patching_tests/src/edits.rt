@@ -3,7 +3,7 @@
 use crate::build::checked;
 use c_tree::{Expr, Loc, NoMemory, Text};
 use c_types::Typed;
-use patch_print::print_expr;
+use patch_text::print_expr;
 use schemas::{Atom, atoms, bounds, candidates, candidates_can_be_made, edited, locations};
 use std::alloc::Global;
 use std::process::Abort;

@@ -4,7 +4,7 @@ use crate::build::checked;
 use crate::edits::expect;
 use crate::exprs::greater;
 use c_tree::{BinOp, Expr, Slot, Span, Text};
-use patch_print::print_expr;
+use patch_text::print_expr;
 use schemas::{Atom, Bound, Edit, bound_expr, edited_expr};
 use std::alloc::Global;
 use std::process::Abort;

@@ -4,7 +4,7 @@ use crate::exprs::{
     Built, a, b, binary, cast, choice, comma, constant, element, name, one, pair, sum, unary,
 };
 use c_tree::{BinOp, Ty, UnOp};
-use patch_print::print_expr;
+use patch_text::print_expr;
 use std::alloc::Global;
 use std::process::Abort;
 use std::test::Fail;

@@ -2,7 +2,7 @@
 
 use crate::exprs::{differs, equals, greater, sum};
 use c_tree::{BinOp, Span};
-use patch_print::{Form, edit_line, line_and_column, splice_expr, splice_guarded, splice_joined};
+use patch_text::{Form, edit_line, line_and_column, splice_expr, splice_guarded, splice_joined};
 use std::test::Fail;
 
 /// The greater of two numbers that are read, but for its condition.

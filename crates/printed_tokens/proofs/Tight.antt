@@ -19,7 +19,7 @@ use Rattle.c_tree.specs.declared.expr.UnOp.TheVariants.{Plus, Minus, Flip, Compl
 use Rattle.c_tree.specs.declared.stmt.Ty.{Ty}
 use Rattle.c_tree.specs.declared.stmt.Ty.TheVariants.{Int, Char}
 use Rattle.c_tree.specs.Tree.{Tree, constant, name, index, call, unary, cast, binary, choice, assign, bump, comma, hole, hole_after}
-use Rattle.patch_print.specs.Printed.{sign, symbol, type_name, parenthesized, operand, printed}
+use Rattle.patch_text.specs.Printed.{sign, symbol, type_name, parenthesized, operand, printed}
 use Rattle.c_splice.specs.Seams.{IsLoose, IsTight}
 use Rattle.c_splice.specs.Words.{Spells}
 use Rattle.c_splice.proofs.TightWords.{tight_word}

@@ -6,7 +6,7 @@ use Rattle.c_grammar.specs.declared.nonterminal.Nonterminal.{Nonterminal}
 use Rattle.c_grammar.specs.declared.nonterminal.Nonterminal.TheVariants.{Expression}
 use Rattle.c_grammar.specs.Grammar.{Tokens, Reads}
 use Rattle.c_grammar.specs.Programs.{Derives}
-use Rattle.patch_print.specs.Printed.{printed}
+use Rattle.patch_text.specs.Printed.{printed}
 use Rattle.c_splice.specs.Seams.{IsTight}
 use Rattle.c_splice.specs.Words.{AllWorded}
 use Rattle.c_replace.specs.Shapes.{Shaped}

@@ -2,6 +2,7 @@ pub mod Accepting
 pub mod Agreeing
 pub mod Commands
 pub mod Lengths
+pub mod Patching
 pub mod Pieces
 pub mod Places
 pub mod Reading

@@ -13,7 +13,7 @@ use crate::refusal::Refusal;
 use crate::report::{refuse, report};
 use crate::status::Status;
 use fx_io::{Files, Sink};
-use job_reread::texts_are_read_again;
+use patch_reread::patches_read_again;
 use std::alloc::Global;
 
 /// Repairs the program that the words name, over the tests of the suite that they name. The words
@@ -44,7 +44,7 @@ pub fn run_alone<F: Files, O: Sink, E: Sink>(
         HasRoom given (O.room out.old) → longest given ≤ E.room err.old → IsFaultless result }
     ensures read_again { PatchesAreReadAgain (source F.held F.faults words.now files.old files.new) }
 {
-    texts_are_read_again();
+    patches_read_again();
     match answered(alloc, words, files) {
         Ok(reply) => report(&reply, out, err),
         Err(refusal) => refuse(refusal, err),

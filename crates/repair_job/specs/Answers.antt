@@ -25,7 +25,8 @@ pub record IsFirstRepair (job : Job) (rank : ℕ) : Type 0 where
 abbrev pub NoneRepairs : Job → Type 0
 NoneRepairs job = All (λ patch. ¬ Repairs job patch) (patches job)
 
--- the program passes every test; or it fails one, and a patch is the first that repairs it, or no patch does
+-- the program passes every test; or it fails one, and a patch is the first that repairs it, or no
+-- patch does
 abbrev pub IsRight : Job → Answer → Type 0
 IsRight job answer.Sound = IsSound job
 IsRight job (answer.Patch rank) = ¬ IsSound job × IsFirstRepair job rank

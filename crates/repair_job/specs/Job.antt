@@ -7,8 +7,8 @@ use Rattle.c_meaning.specs.Ends.{outcome}
 use Rattle.c_meaning.specs.declared.outcome.Outcome.TheVariants.{Passed}
 use Rattle.repair_job.specs.declared.answer.Shown.{Shown}
 
--- the bytes of a source and the program that they state; its tests, and the units of work that each may take; how many
--- patches are tried at most; and what the answer shows of a patch
+-- the bytes of a source and the program that they state; its tests, and the units of work that each
+-- may take; how many patches are tried at most; and what the answer shows of a patch
 pub record Job : Type 0 where
   pub source : List ℕ
   pub program : List Outer

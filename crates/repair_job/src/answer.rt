@@ -5,8 +5,8 @@
 pub enum Answer {
     /// The program passes every test as it is.
     Sound,
-    /// The program fails a test, and the patch of this rank, counted from 0, is the first that makes it pass every
-    /// test.
+    /// The program fails a test, and the patch of this rank, counted from 0, is the first that makes
+    /// it pass every test.
     Patch(u32),
     /// The program fails a test, and no patch that is tried makes it pass every test.
     Nothing,

@@ -20,7 +20,7 @@ returns-in-Err-clause-complete g c sure files room_out room =
     subst IsFaultless (sym is) (is_faultless given c.in-Err.refusal (c.in-Err.ensures.sure sure files) cause)
 
 pub returns-in-Ok-clause-read_again : goal.returns-in-Ok-clause-read_again
-returns-in-Ok-clause-read_again g c = each_read c.texts_are_read_again.ensures _
+returns-in-Ok-clause-read_again g c = each_read c.patches_read_again.ensures _
 
 pub returns-in-Err-clause-read_again : goal.returns-in-Err-clause-read_again
-returns-in-Err-clause-read_again g c = each_read c.texts_are_read_again.ensures _
+returns-in-Err-clause-read_again g c = each_read c.patches_read_again.ensures _
