@@ -29,8 +29,8 @@ pub fn holes_stand_at_locations()
 }
 
 /// Wherever a run of a checked program in text order with a hole at one of its locations waits, each variable that is
-/// visible at the location, and each that what stands there names, has a live object of its type (C11 6.2.4), of one cell unless it is an array,
-/// and each number in the object is a value of that type.
+/// visible at the location, and each that what stands there names, has a live object of its type (C11 6.2.4), of one
+/// cell unless it is an array, and each number in the object is a value of that type.
 pub fn waiting_states_show_what_is_visible()
     ensures runs { WaitingRunsShowLocations }
     ensures filled { FilledRunsShowLocations }
