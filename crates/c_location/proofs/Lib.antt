@@ -1,4 +1,4 @@
-mod SpanLemmas
+pub mod SpanLemmas
 mod TallyLemmas
 pub mod Places
 mod Elsewhere

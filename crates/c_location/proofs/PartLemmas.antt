@@ -17,7 +17,7 @@ use Rattle.c_tree.proofs.ViewsLemmas.{node-Call, node-Block}
 use Rattle.c_location.specs.declared.part.Part.{Part as Lent}
 use Rattle.c_location.specs.Locations.{Part, Located, is_at, in_tree, in_args, in_code, in_body}
 use Rattle.c_location.specs.Shown.{lent, found_at}
-use Rattle.c_location.proofs.SpanLemmas.{span_of-tree, span_of-code}
+use Rattle.c_location.proofs.SpanLemmas.{span_of_tree, span_of_statement}
 
 -- the part of the first of two
 part-or : (a b : Option Located) → option_map (λ (x : Located). x.part) (option_or a b) ≡ option_or (option_map (λ (x : Located). x.part) a) (option_map (λ (x : Located). x.part) b)
@@ -38,7 +38,7 @@ pub either-found : (l : Loc) (xs ys : List Located) (a b r : Option Lent) → r 
 either-found l xs ys a b r is p q =
     ap (option_map lent) is ∙ lent-or a b ∙ ap (λ z. option_or z (option_map lent b)) p ∙ ap (option_or (found_at l xs)) q ∙ sym (found_at-append l xs ys)
 
-pub ruleset part_steps = (found_at-append, lent-or, span_of-tree, span_of-code)
+pub ruleset part_steps = (found_at-append, lent-or, span_of_tree, span_of_statement)
 
 -- what is found in a call is found in its arguments
 pub found_at-Call : (l : Loc) (e : Expr) (word : List ℕ) (args : Vec Arg Global) → e.node ≡ Call word args → found_at l (in_tree (tree e)) ≡ found_at l (in_args (args_of args.items))

@@ -26,8 +26,8 @@ span_of-node (Bump' before up _ e es) s = refl
 span_of-node (Comma' _ l ls _ r rs) s = refl
 
 -- an expression covers its span
-pub span_of-tree : (e : Expr) → span_of (tree e) ≡ e.span
-span_of-tree e = span_of-node e.node e.span
+pub span_of_tree : (e : Expr) → span_of (tree e) ≡ e.span
+span_of_tree e = span_of-node e.node e.span
 
 -- a statement covers its span, whatever stands there
 pub span_of-kind : (n : StmtNode) (s : Span) → span_of_code (node_code n s) ≡ s
@@ -44,7 +44,7 @@ span_of-kind Break s = refl
 span_of-kind Continue s = refl
 
 -- a statement covers its span
-pub span_of-code : (st : Stmt) → span_of_code (code st) ≡ st.span
-span_of-code st = span_of-kind st.node st.span
+pub span_of_statement : (st : Stmt) → span_of_code (code st) ≡ st.span
+span_of_statement st = span_of-kind st.node st.span
 
-pub ruleset span_steps = (span_of-tree, span_of-kind)
+pub ruleset span_steps = (span_of_tree, span_of-kind)

@@ -5,14 +5,14 @@ use Rattle.std.proofs.lemmas.List.{take_all}
 use Rattle.c_tree.specs.declared.place.Loc.{Loc}
 use Rattle.c_location.specs.Locations.{Located}
 use Rattle.c_location.specs.Tally.{Found, with_one, with_all, none_found}
-use Rattle.c_location.proofs.SpanLemmas.{span_of-tree}
+use Rattle.c_location.proofs.SpanLemmas.{span_of_tree}
 
 -- two lists of locations are found one after the other
 pub with_all-append : (f : Found) (xs ys : List Located) → with_all f (xs ++ ys) ≡ with_all (with_all f xs) ys
 with_all-append f [] ys = refl
 with_all-append f (x ∷ xs) ys = with_all-append (with_one f x.loc) xs ys
 
-pub ruleset tally_steps = (with_all-append, span_of-tree)
+pub ruleset tally_steps = (with_all-append, span_of_tree)
 
 -- the locations alone
 abbrev pub locs : List Located → List Loc

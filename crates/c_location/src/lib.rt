@@ -17,5 +17,5 @@ pub use laws::{
     each_names_one_place, locations_rise, nothing_elsewhere, one_location_at_each_byte,
 };
 pub use list::locations;
-pub use part::{Part, part_at};
+pub use part::{Part, is_at, part_at};
 pub use rewrite::change_at;

@@ -1,18 +1,13 @@
 -- What is visible at a place.
-use Rattle.std.proofs.Common.{◌≡◌, refl, ℕ, ◌<◌, Bool, true, nat_lt, List, sym, ap, ◌∙◌, arith, Vec, Global}
+use Rattle.std.proofs.Common.{◌≡◌, ℕ, ◌<◌, Bool, true, nat_lt, List, sym, ap, ◌∙◌, arith, Vec, Global}
 use Rattle.std.specs.Prelude.{if◌then◌else◌}
 use Rattle.std.proofs.lemmas.Bool.Decides.{nat_tests}
-use Rattle.c_tree.specs.declared.place.Span.{Span}
-use Rattle.c_tree.specs.declared.expr.Expr.{Expr}
-use Rattle.c_tree.specs.declared.expr.ExprNode.{ExprNode}
-use Rattle.c_tree.specs.declared.expr.ExprNode.TheVariants.{Const, Name, Index', Call', Unary', Cast', Binary', Choice', Assign', Bump', Comma'}
 use Rattle.c_tree.specs.declared.stmt.Item.{Item}
 use Rattle.c_tree.specs.declared.stmt.Stmt.{Stmt}
 use Rattle.c_tree.specs.declared.stmt.StmtNode.{StmtNode}
 use Rattle.c_tree.specs.declared.stmt.StmtNode.TheVariants.{Block}
-use Rattle.c_tree.specs.Views.{tree, node_tree, code, node_code, body_of}
+use Rattle.c_tree.specs.Views.{code, node_code, body_of}
 use Rattle.c_tree.proofs.ViewsLemmas.{node-Block}
-use Rattle.c_tree.specs.Parts.{span_of}
 use Rattle.c_types.specs.declared.visible.Visible.{Visible}
 use Rattle.c_types.specs.Visible.{with_code, with_body}
 
@@ -27,21 +22,3 @@ block_visible place st items xs before is xs_is lt =
     ap (λ (ys : List Item). with_body place (body_of ys) before) xs_is
     ∙ sym (ap (λ (b : Bool). if b then with_body place (body_of items.items) before else before) (below place st.span.to lt))
     ∙ sym (ap (λ b. with_code place b before) (node-Block items st.span)) ∙ sym (ap (λ (n : StmtNode). with_code place (node_code n st.span) before) is)
-
--- an expression covers its span, whatever stands there
-span_of-node : (n : ExprNode) (s : Span) → span_of (node_tree n s) ≡ s
-span_of-node (Const v word) s = refl
-span_of-node (Name word slot) s = refl
-span_of-node (Index' word slot _ e es) s = refl
-span_of-node (Call' word _ args) s = refl
-span_of-node (Unary' op _ e es) s = refl
-span_of-node (Cast' ty _ e es) s = refl
-span_of-node (Binary' op _ l ls _ r rs) s = refl
-span_of-node (Choice' _ t ts _ a as_ _ b bs) s = refl
-span_of-node (Assign' op _ l ls _ r rs) s = refl
-span_of-node (Bump' before up _ e es) s = refl
-span_of-node (Comma' _ l ls _ r rs) s = refl
-
--- an expression covers its span
-pub span_of_tree : (e : Expr) → span_of (tree e) ≡ e.span
-span_of_tree e = span_of-node e.node e.span

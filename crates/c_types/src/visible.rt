@@ -56,7 +56,7 @@ fn add(found: &mut Vec<Visible>, v: Visible) -> Result<(), NoMemory>
 }
 
 /// Whether the place is in a scalar's initialiser.
-#[tactic(auto, using(crate::proofs::VisibleLemmas::span_of_tree))]
+#[tactic(auto, using(crate::proofs::ExpressionLemmas::span_of_tree))]
 fn is_inside(start: &Start, place: u32) -> bool
     ensures { result ≡ is_inside place (initial start.now) }
 {

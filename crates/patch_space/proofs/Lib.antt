@@ -1,5 +1,5 @@
 mod ChangeLemmas
-mod SpanLemmas
+mod Spans
 mod SpaceLemmas
 pub mod EachPatch
 mod RankLemmas

@@ -20,7 +20,7 @@ use schemas::{Edit, bound_expr, edited_expr};
 use std::alloc::Global;
 
 /// The change that the edit makes of the expression, if it is one of an expression.
-#[tactic(auto, using(crate::proofs::SpanLemmas::span_of_tree))]
+#[tactic(auto, using(crate::proofs::Spans::spans))]
 fn change_of_expr(alloc: Global, e: &Expr, edit: &Edit) -> Result<Option<Change>, NoMemory>
     ensures { IfOk result (λ r. option_map change r
         ≡ change_by edit.now (expression (tree e.now))) }
@@ -39,7 +39,7 @@ fn change_of_expr(alloc: Global, e: &Expr, edit: &Edit) -> Result<Option<Change>
 }
 
 /// The change that the edit makes of the statement, if it is one of a statement.
-#[tactic(auto, using(crate::proofs::SpanLemmas::span_of_statement))]
+#[tactic(auto, using(crate::proofs::Spans::spans))]
 fn change_of_stmt(alloc: Global, st: &Stmt, edit: &Edit) -> Result<Option<Change>, NoMemory>
     ensures { IfOk result (λ r. option_map change r
         ≡ change_by edit.now (statement (code st.now))) }

@@ -16,7 +16,7 @@ pub fn patched_is_checked()
     scopes_agree();
 }
 
-/// Each patch of a program changes it: the program has its location, and its edit can be made there.
+/// Each patch of a program makes a change in it: the program has its location, and its edit can be made there.
 pub fn patches_change()
     ensures { PatchesChange }
 {

@@ -1,5 +1,5 @@
 mod ConstantLemmas
-mod SpanLemmas
+mod Spans
 mod SameLemmas
 mod Makeable
 mod CandidateLemmas

@@ -71,7 +71,7 @@ fn with_operator(alloc: Global, e: &Expr, op: BinOp) -> Result<Expr, NoMemory>
 }
 
 /// A copy of the expression, plus 1 or minus 1.
-#[tactic(auto, using(crate::proofs::SpanLemmas::span_of_tree))]
+#[tactic(auto, using(crate::proofs::Spans::spans))]
 fn by_one(alloc: Global, e: &Expr, up: bool) -> Result<Expr, NoMemory>
     ensures { IfOk result (λ r. tree r ≡ plus_one up (tree e.now)) }
 {
@@ -98,7 +98,7 @@ fn side_by_one(alloc: Global, e: &Expr, up: bool) -> Result<Expr, NoMemory>
 }
 
 /// The expression joined to the bound.
-#[tactic(auto, using(crate::proofs::SpanLemmas::span_of_tree))]
+#[tactic(auto, using(crate::proofs::Spans::spans))]
 fn joined(alloc: Global, e: &Expr, op: BinOp, bound: &Bound) -> Result<Expr, NoMemory>
     ensures { IfOk result (λ r. tree r
         ≡ binary_tree op (tree e.now) (bound_tree bound.now (span_of (tree e.now)))
@@ -109,7 +109,7 @@ fn joined(alloc: Global, e: &Expr, op: BinOp, bound: &Bound) -> Result<Expr, NoM
 }
 
 /// The new expression in place of this one. It covers the same text. An edit of a statement leaves it.
-#[tactic(auto, using(crate::proofs::SpanLemmas::span_of_tree))]
+#[tactic(auto, using(crate::proofs::Spans::spans))]
 pub fn edited_expr(alloc: Global, e: &Expr, edit: &Edit) -> Result<Expr, NoMemory>
     ensures { IfOk result (λ r. tree r ≡ after (tree e.now) edit.now) }
 {
@@ -137,7 +137,7 @@ fn edited_part(alloc: Global, e: &Expr, edit: &Edit) -> Result<Option<Expr>, NoM
 }
 
 /// The test that the edit puts before the statement, if it is one of a statement.
-#[tactic(auto, using(crate::proofs::SpanLemmas::span_of_statement))]
+#[tactic(auto, using(crate::proofs::Spans::spans))]
 fn test_before(alloc: Global, st: &Stmt, edit: &Edit) -> Result<Option<Expr>, NoMemory>
     ensures { IfOk result (λ r. option_map tree r ≡ put_before (code st.now) edit.now) }
 {
