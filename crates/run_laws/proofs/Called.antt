@@ -37,7 +37,8 @@ use Rattle.c_meaning.specs.Meaning.{definition, is_defined, params_of, takes_arr
 use Rattle.run_laws.specs.Holes.{Names}
 use Rattle.run_laws.specs.Reads.{GivesValue}
 use Rattle.run_laws.specs.Places.{AgreesWith, Agrees, IsThereAs, IsThere}
-use Rattle.run_laws.proofs.Well.{first_ty, IsArrayName, IsIntPlace, AllValues, IsCall}
+use Rattle.run_laws.specs.Passing.{IsArrayName}
+use Rattle.run_laws.proofs.Well.{first_ty, IsIntPlace, AllValues, IsCall}
 
 -- a fault is one
 pub no_such : {A : Type 0} (kind : FaultKind) (s : Span) → fault kind s ≡ [] → A
@@ -70,8 +71,8 @@ called_array (Some Printf) ty h = absurd (cc)
 called_array (Some Scanf) ty h = absurd (cc)
 
 -- so an expression of such a kind is the name of an array
-pub array_name : (ds : Names) (e : Tree) (ty : Ty) → kind ds (resolved_tree ds e) ≡ Array ty → IsArrayName ds ty e
-array_name ds (name word slot s) ty h = record { word = word; slot = entity_slot (denoted ds word); denotes = named_array (denoted ds word) ty h; is_slot = refl }
+pub array_name : (ds : Names) (e : Tree) (ty : Ty) → kind ds (resolved_tree ds e) ≡ Array ty → IsArrayName ds ty (resolved_tree ds e)
+array_name ds (name word slot s) ty h = named_array (denoted ds word) ty h
 array_name ds (call word args s) ty h = called_array (denoted ds word) ty h
 array_name ds (constant n word s) ty h = absurd (cc)
 array_name ds (index word slot e s) ty h = absurd (cc)

@@ -1,14 +1,15 @@
 -- What the laws say of programs with a hole: one that they hold of, and one that isn't resolved, of which they fail.
--- And what they say of a call with an array.
-use Rattle.std.proofs.Common.{◌≡◌, ℕ, ℤ, pos, List, [], ◌∷◌, ◌≤◌, length, slice_get, codes, true, false, Some, None, refl, sym, ap, ◌∙◌, subst, arith}
-use Rattle.std.proofs.lemmas.List.Elements.{All-from_recursion, All-contains}
+-- And what they say of a call with an array, and of a few trees that no text gives.
+use Rattle.std.proofs.Common.{◌≡◌, ℕ, ℤ, pos, List, [], ◌∷◌, ◌≤◌, length, slice_get, codes, true, false, Option, Some, None, refl, sym, ap, ◌∙◌, subst, arith}
+use Rattle.std.proofs.lemmas.List.Elements.{All-nil, All-head, All-from_recursion, All-contains}
 use Rattle.std.proofs.lemmas.Slice.Eq.{bytes_eq-Decides}
 use Rattle.std.specs.Prelude.{All}
 use Rattle.std.specs.Str.{bytes_eq}
 use Rattle.c_tree.specs.declared.stmt.Shape.TheVariants.{Scalar, Array}
 use Rattle.c_tree.specs.declared.stmt.Slot.TheVariants.{Local}
 use Rattle.c_tree.specs.declared.stmt.Ty.TheVariants.{Int}
-use Rattle.c_tree.specs.Tree.{Tree, constant, name, index, call, hole, Args, value, no_args, bare_start, list_start, Variable, act, give, break, next, vars, done, Body, Function, Outer, outer_func, no_span}
+use Rattle.c_tree.specs.Tree.{Tree, constant, name, index, call, hole, Args, value, no_args, bare_start, one_start, list_start, Variable, act, give, break, next, vars, done, Body, Function, Outer, outer_func, no_span}
+use Rattle.c_types.specs.declared.scope.Entity.TheVariants.{Variable as VariableEntity}
 use Rattle.c_types.specs.Evidence.{IsChecked}
 use Rattle.c_types.specs.Library.{library}
 use Rattle.c_types.specs.Least.{fault}
@@ -18,14 +19,15 @@ use Rattle.c_types.specs.Statements.{variable_declaration}
 use Rattle.c_meaning.specs.declared.argument.Argument.{Argument}
 use Rattle.c_meaning.specs.declared.argument.Argument.TheVariants.{Number, Array as Given}
 use Rattle.c_meaning.specs.World.{Object, World, waiting}
-use Rattle.c_meaning.specs.Meaning.{Filling, user_call, no_hole, run_program}
+use Rattle.c_meaning.specs.Meaning.{Filling, user_call, no_hole, run_program, own_run}
 use Rattle.run_laws.specs.Typed.{HasObject, IsTypedBy, IsSteady}
 use Rattle.run_laws.specs.Holes.{Names, holes}
 use Rattle.run_laws.specs.Places.{file_scope, IsThere}
 use Rattle.run_laws.specs.Laws.{IsTypedByOne}
 use Rattle.run_laws.specs.Reads.{TakesAll, IsDefinedFor, IsCallable}
 use Rattle.run_laws.specs.Bodies.{FindsCall, RunFinds}
-use Rattle.run_laws.proofs.Programs.{runs-find}
+use Rattle.run_laws.specs.Passing.{Call, PassesByName, written_calls}
+use Rattle.run_laws.proofs.Programs.{runs-find, arrays-passed, holes-typed}
 
 -- holes at which every run stops
 abbrev stops_there : Filling
@@ -228,3 +230,71 @@ is_refused h = let none : program_faults (main_of (vars Int (crowded ∷ []) don
 is_crowded : RunFinds no_hole (main_of (vars Int (crowded ∷ []) done)) at_first → ⊥
 unfolding user_call FindsCall
 is_crowded h = let holds : 2 ≤ 1 = h.1.2.1.1.0.0.1 in absurd (omega arith)
+
+-- ---- arrays as arguments
+
+-- the law says of its call that `b` denotes an array of that type and slot
+names_the_array : PassesByName calling (record { word = codes "first"; args = value (name (codes "b") (Local 0) no_span) no_args; scope = variable_declaration Int pair ∷ file_scope calling })
+names_the_array = All-head (PassesByName calling) _ [] (arrays-passed calling calling_is_checked)
+
+-- `int f(int a[]) { return a[1]; } int main(void) { int x = 5; return f(x); }`
+abbrev second : Function
+second = record {
+  word = codes "f";
+  span = no_span;
+  ret = Some Int;
+  params = record { word = codes "a"; slot = Local 0; span = no_span; ty = Int; array = true } ∷ [];
+  body = Some (gives (index (codes "a") (Local 0) (number (pos 1)) no_span) done);
+}
+
+abbrev five : Variable
+five = record { word = codes "x"; slot = Local 0; span = no_span; shape = Scalar; start = one_start (number (pos 5)) }
+
+abbrev mistaken : List Outer
+mistaken = outer_func second ∷ (outer_func (record {
+  word = codes "main";
+  span = no_span;
+  ret = Some Int;
+  params = [];
+  body = Some (vars Int (five ∷ []) (gives (call (codes "f") (value (name (codes "x") (Local 0) no_span) no_args) no_span) done));
+}) ∷ [])
+
+-- its call, where `x` is an `int`
+abbrev given_number : Call
+given_number = record { word = codes "f"; args = value (name (codes "x") (Local 0) no_span) no_args; scope = variable_declaration Int five ∷ file_scope mistaken }
+
+is_written : written_calls mistaken ≡ given_number ∷ []
+is_written = refl
+
+-- it passes no array
+passes_number : PassesByName mistaken given_number → ⊥
+passes_number h =
+    let wrong : Some (VariableEntity (Local 0) Int false) ≡ Some (VariableEntity (Local 0) Int true) = h.0 refl in
+    absurd (cc)
+
+-- so the rules of kinds refuse it
+not_checked : IsChecked mistaken → ⊥
+not_checked h = passes_number (All-head (PassesByName mistaken) given_number [] (arrays-passed mistaken h))
+
+-- ---- runs that wait
+
+-- the own run of a program without a hole doesn't wait
+never_waits : (p : List Outer) → IsChecked p → holes p ≡ [] → (old : Option ℤ) (w x : World) → own_run p w ≡ waiting old x → ⊥
+never_waits p checked none old w x e =
+    let typed = holes-typed p checked no_hole own_is_steady old w x e in
+    All-contains (λ (ds : Names). ⊥) (holes p) typed.scope (subst (λ (hs : List Names). All (λ (ds : Names). ⊥) hs) (sym none) (All-nil (λ (ds : Names). ⊥))) typed.is_scope
+
+-- ---- trees that no text gives
+
+-- `int a[2] = 5;`, `int b[] = {};` and `int x = {7};`, which no rule of kinds refuses
+abbrev unbraced : Variable
+unbraced = record { word = codes "a"; slot = Local 0; span = no_span; shape = Array (Some (pos 2)); start = one_start (number (pos 5)) }
+
+abbrev unlisted : Variable
+unlisted = record { word = codes "b"; slot = Local 1; span = no_span; shape = Array None; start = list_start [] }
+
+abbrev braced : Variable
+braced = record { word = codes "x"; slot = Local 2; span = no_span; shape = Scalar; start = list_start (number (pos 7) ∷ []) }
+
+not_refused : IsChecked (main_of (vars Int (unbraced ∷ (unlisted ∷ (braced ∷ []))) done))
+not_refused = record { faultless = λ end. refl; is_resolved = refl }

@@ -33,7 +33,8 @@ use Rattle.c_meaning.specs.Meaning.{definition, params_of, rest_of}
 use Rattle.run_laws.specs.Holes.{Names, tree_holes, args_holes, option_holes, initial_holes, variables_holes, first_holes, code_holes, body_holes, definition_holes}
 use Rattle.run_laws.specs.Reads.{GivesValue}
 use Rattle.run_laws.specs.Bodies.{HoldsList}
-use Rattle.run_laws.proofs.Well.{first_ty, IsNameOf, IsArrayName, Well, WellArgs, WellOption, WellList, WellInitial, WellVariables, WellFirst, WellCode, WellBody, WellDefinition}
+use Rattle.run_laws.specs.Passing.{IsArrayName}
+use Rattle.run_laws.proofs.Well.{first_ty, IsNameOf, Well, WellArgs, WellOption, WellList, WellInitial, WellVariables, WellFirst, WellCode, WellBody, WellDefinition}
 use Rattle.run_laws.proofs.Keeping.{All-left, All-right}
 use Rattle.run_laws.proofs.Called.{array_word, no_such, array_name, not_true, array_kind, evaluated, scalar_name, int_place, Stands, AllStand, stands_denoted, WantsEach, wants_none, wants_rest, wants_first, wants_of, Fits, Made, made_by, gives_by}
 
@@ -41,7 +42,7 @@ use Rattle.run_laws.proofs.Called.{array_word, no_such, array_name, not_true, ar
 
 module _ (program : List Outer) (scopes : List Names) (there : Type 0) (ds : Names) (agree : AllStand program there ds) where
   -- the parameters of the called definition
-  wants_params : (n : ℕ) (word : List ℕ) (args : Args) (s : Span) (o : Option Function) → definition word program ≡ o → call_faults (denoted ds word) args s ≡ [] → WantsEach (wanted (denoted ds word) n) 0 (params_of o)
+  pub wants_params : (n : ℕ) (word : List ℕ) (args : Args) (s : Span) (o : Option Function) → definition word program ≡ o → call_faults (denoted ds word) args s ≡ [] → WantsEach (wanted (denoted ds word) n) 0 (params_of o)
   wants_params n word args s None found h = wants_none (wanted (denoted ds word) n) 0
   wants_params n word args s (Some f) found h = wants_of n (denoted ds word) args s f h (λ e is. (stands_denoted program there ds word e agree is).0 f found)
 
@@ -86,7 +87,7 @@ module _ (program : List Outer) (scopes : List Names) (there : Type 0) (ds : Nam
   abbrev Known : List Names → Type 0
   Known hs = All (Contains scopes) hs
 
-  value_array : (w : Wanted) (ty : Ty) (e : Tree) → w ≡ ArrayOf ty → value_faults w (kind ds (resolved_tree ds e)) (span_of (resolved_tree ds e)) ≡ [] → IsArrayName ds ty e
+  value_array : (w : Wanted) (ty : Ty) (e : Tree) → w ≡ ArrayOf ty → value_faults w (kind ds (resolved_tree ds e)) (span_of (resolved_tree ds e)) ≡ [] → IsArrayName ds ty (resolved_tree ds e)
   value_array w ty e is h =
       array_name ds e ty (array_kind (kind ds (resolved_tree ds e)) ty (span_of (resolved_tree ds e)) (ap (λ (x : Wanted). value_faults x (kind ds (resolved_tree ds e)) (span_of (resolved_tree ds e))) (sym is) ∙ h))
 
@@ -343,7 +344,7 @@ module _ (program : List Outer) (scopes : List Names) (there : Type 0) where
   abbrev Held : List Names → Type 0
   Held hs = All (Contains scopes) hs
 
-  agree_variable : (slot : Slot) (ty : Ty) (v : Variable) (ds : List Declaration) → AllStand program there ds → AllStand program there (variable_declaration ty (numbered_variable slot v) ∷ ds)
+  pub agree_variable : (slot : Slot) (ty : Ty) (v : Variable) (ds : List Declaration) → AllStand program there ds → AllStand program there (variable_declaration ty (numbered_variable slot v) ∷ ds)
   agree_variable slot ty v ds h = All-cons (Stands program there) (variable_declaration ty (numbered_variable slot v)) ds ((λ word f e is. tt), (λ sure. tt)) h
 
   pub agree_declared : (storage : Storage) (ty : Ty) (n : ℕ) (vs : List Variable) (here around : List Declaration) → AllStand program there (here ++ around) → AllStand program there (declared ty (numbered (slot_in storage) n vs) here ++ around)
@@ -351,7 +352,7 @@ module _ (program : List Outer) (scopes : List Names) (there : Type 0) where
   agree_declared storage ty n (v ∷ vs) here around h =
       agree_declared storage ty (suc n) vs (variable_declaration ty (numbered_variable (slot_in storage n) v) ∷ here) around (agree_variable (slot_in storage n) ty v (here ++ around) h)
 
-  agree_first : (n : ℕ) (f : First) (ds : List Declaration) → AllStand program there ds → AllStand program there (first_declared (numbered_first n f) ++ ds)
+  pub agree_first : (n : ℕ) (f : First) (ds : List Declaration) → AllStand program there ds → AllStand program there (first_declared (numbered_first n f) ++ ds)
   agree_first n no_first ds h = h
   agree_first n (first_act e) ds h = h
   agree_first n (first_vars ty vs) ds h = agree_declared Automatic ty n vs [] ds h

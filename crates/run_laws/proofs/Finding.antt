@@ -21,11 +21,12 @@ use Rattle.c_meaning.specs.Meaning.{Filling, Called, slot_of, definition, params
 use Rattle.run_laws.specs.Typed.{HasObject, IsTypedBy, Keeps, IsSteady}
 use Rattle.run_laws.specs.Holes.{Names}
 use Rattle.run_laws.specs.Reads.{Then, Chosen, FindsObject, FindsArray, FindsPlace, Takes, TakesAll, is_element, IsCallable, Inside, Finds, FindsIndex, FindsArgs}
-use Rattle.run_laws.proofs.Well.{first_ty, IsNameOf, IsArrayName, Suits, ShapedOne, Shaped, AllValues, IsIntPlace, IsCall, Well, WellArgs}
+use Rattle.run_laws.specs.Passing.{IsArrayName}
+use Rattle.run_laws.proofs.Well.{first_ty, IsNameOf, Suits, ShapedOne, Shaped, AllValues, IsIntPlace, IsCall, Well, WellArgs}
 use Rattle.run_laws.proofs.Formats.{conversions-agree}
 use Rattle.run_laws.proofs.Keeping.{From}
 use Rattle.run_laws.proofs.Sound.{Context, At, Sound, at_moves, used_sound}
-use Rattle.run_laws.proofs.Runs.{CallsKeep, denoted_object, shaped_suit, passed_from, eval_sound, index_sound, evals_from}
+use Rattle.run_laws.proofs.Runs.{CallsKeep, denoted_object, array_denoted, shaped_suit, passed_from, eval_sound, index_sound, evals_from}
 
 -- what follows a part that goes on
 pub then_holds : {A : Type 0} {W : World → Type 0} {S : Slot → Type 0} {Q : A → World → Type 0} {w : World} (o : Out A) (T : A → World → Type 0) → From W S Q w o → ((a : A) (x : World) → Keeps S w x → T a x) → Then o T
@@ -57,11 +58,9 @@ name_found ds w word array n typed =
     let same : n.slot ≡ entity_slot (denoted ds word) = ap entity_slot (sym n.denotes) in
     record { ty = n.ty; has = subst (λ (s : Slot). HasObject w s n.ty array) same (denoted_object ds w word n.slot n.ty array typed n.denotes) }
 
-array_found : (ds : Names) (ty : Ty) (e : Tree) (w : World) → IsArrayName ds ty e → IsTypedBy ds w → FindsArray w (slot_of (resolved_tree ds e))
-array_found ds ty e w a typed = record {
-  ty = ty;
-  has = subst (λ (s : Slot). HasObject w s ty true) (sym a.is_slot) (denoted_object ds w a.word a.slot ty true typed a.denotes);
-}
+array_found : (ds : Names) (ty : Ty) (e : Tree) (w : World) → IsArrayName ds ty e → IsTypedBy ds w → FindsArray w (slot_of e)
+array_found ds ty e w a typed =
+    let array = array_denoted ds ty e a in record { ty = ty; has = denoted_object ds w array.0 (slot_of e) ty true typed array.1 }
 
 pub chosen_by : (b : Bool) (P Q : Type 0) → (b ≡ true → P) → (b ≡ false → Q) → Chosen b P Q
 chosen_by true P Q f g = f refl
@@ -279,7 +278,7 @@ module _ (filling : Filling) (steady : IsSteady filling) (program : List Outer) 
     finds_args no_args ps h w at = tt
     finds_args (value e rest) ps h w at = (
       chosen_by (takes_array ps) _ _
-          (λ a. array_found k.scope (first_ty ps) e w (h.0 a) at.typed)
+          (λ a. array_found k.scope (first_ty ps) (resolved_tree k.scope e) w (h.0 a) at.typed)
           (λ a. finds true e (h.1.0 a) w at),
       then_holds (passed (takes_array ps) (slot_of (slotted e)) (used (eval filling program called (slotted e))) w) _
           (passed_from k (takes_array ps) (first_ty ps) e _ w at h.0 (λ a. used_sound (sound true e (h.1.0 a))))

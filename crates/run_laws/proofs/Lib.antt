@@ -9,6 +9,7 @@ pub mod Bodies
 pub mod Leads
 pub mod Calls
 pub mod Formats
+pub mod Passing
 pub mod Programs
 pub mod NoHoles
 mod Examples

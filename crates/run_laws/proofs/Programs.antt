@@ -3,7 +3,7 @@ use Rattle.std.proofs.Common.{◌≡◌, ℕ, suc, ◌+◌, Bool, true, false, n
 use Rattle.std.specs.Prelude.{⊤, Contains, All}
 use Rattle.std.specs.Str.{bytes_eq}
 use Rattle.std.proofs.lemmas.Slice.Eq.{bytes_eq-Decides}
-use Rattle.std.proofs.lemmas.List.Elements.{All-nil, All-head, All-from_recursion, All-cons, All-tail, All-weaker, All-contains_itself}
+use Rattle.std.proofs.lemmas.List.Elements.{All-nil, All-head, All-from_recursion, All-cons, All-append, All-tail, All-weaker, All-contains_itself}
 use Rattle.c_tree.specs.declared.program.Param.{Param}
 use Rattle.c_tree.specs.declared.stmt.Slot.{Slot}
 use Rattle.c_tree.specs.declared.stmt.Ty.{Ty}
@@ -36,7 +36,7 @@ use Rattle.c_meaning.proofs.Related.{program_related}
 use Rattle.c_meaning.proofs.Fits.{Fitting, fits}
 use Rattle.run_laws.specs.Typed.{EntityHasObject, IsTypedBy, IsSteady}
 use Rattle.run_laws.specs.Holes.{Names, tree_holes, definition_holes, variables_holes, code_holes, outers_holes, holes}
-use Rattle.run_laws.specs.Laws.{RunsFindObjects, IsTypedByOne, HolesAreTyped, HolesFit, NameHasObject, NamesHaveObjects, TypedStatesShowVariables, EndsTyped, StatementsKeepTypes, ExpressionsFindObjects}
+use Rattle.run_laws.specs.Laws.{RunsFindObjects, ArraysArePassedByName, IsTypedByOne, HolesAreTyped, HolesFit, NameHasObject, NamesHaveObjects, TypedStatesShowVariables, EndsTyped, StatementsKeepTypes, ExpressionsFindObjects}
 use Rattle.run_laws.specs.Places.{outers_declared, file_scope, below, HasSlotIn, AgreesWith, Agrees, IsThere, IsScopeIn}
 use Rattle.run_laws.proofs.Keeping.{All-left, All-right, AllWithin, all_within_more, typed_moves, Any, From, of_file, file_below}
 use Rattle.run_laws.proofs.Calls.{IsKnown, IsKnownIfAny, scope_at_end, WellGlobals, no_slot, of_file_below, calls_keep, program_from, found_in, main_called, calls_find, variables_from, within_globals, globals_made}
@@ -45,6 +45,8 @@ use Rattle.run_laws.proofs.Called.{no_such, some_same, not_true, same_types, nat
 use Rattle.run_laws.proofs.Faultless.{declared-resolved, globals_well, agree_declared, tree_well, code_well, definition_well}
 use Rattle.run_laws.specs.Reads.{Then, TakesAll, IsDefinedFor, GivesValue, Inside, Finds}
 use Rattle.run_laws.specs.Bodies.{FindsOuters, in_calls, RunFinds}
+use Rattle.run_laws.specs.Passing.{PassesByName, definition_calls, outers_calls, written_calls}
+use Rattle.run_laws.proofs.Passing.{variables_pass, definition_passes}
 use Rattle.run_laws.proofs.Bodies.{globals_find}
 use Rattle.run_laws.proofs.Sound.{Context}
 use Rattle.run_laws.proofs.Finding.{then_made, CallsFind, finds}
@@ -427,6 +429,11 @@ module _ (file : List Outer) (scopes : List Names) where
   )
   globals_are_well (outer_func f ∷ p) here n h g = globals_are_well p (function_declaration file f ∷ here) n (function_faultless f p here n h) (function_held f p here n g).1
 
+  -- a function's declaration agrees with the definitions, and what is called by it is there
+  stands_next : (d : Function) (p : List Outer) (here : List Declaration) (n : ℕ) → LibraryIn here → AllStand whole ⊤ here → Located here (resolved_outers file here n (outer_func d ∷ p)) → Faultless here n (outer_func d ∷ p) → AllStand whole ⊤ (function_declaration file d ∷ here)
+  stands_next d p here n lib agree located h =
+      All-cons (Stands whole ⊤) (function_declaration file d) here ((λ word f e found. (function_matches d p here n h located word f e found).0), (λ sure. function_there d p here n h located lib (names_faultless d p here n h))) agree
+
   -- each definition that is still to come stands where its names agree, and its body is well-formed
   known_later : (p : List Outer) (here : List Declaration) (n : ℕ) → LibraryIn here → AllStand whole ⊤ here → AllWithin of_file here → Located here (resolved_outers file here n p) → Faultless here n p → Held (outers_holes whole here (resolved_outers file here n p))
       → (word : List ℕ) (f : Function) → definition word (resolved_outers file here n p) ≡ Some f → IsKnown whole scopes (scope_at_end file here n p) f
@@ -436,7 +443,7 @@ module _ (file : List Outer) (scopes : List Names) where
       known_later p more (n + length vs) (λ d a. among_declared d ty (numbered (slot_in Static) n vs) here (lib d a)) (agree_globals whole ty n vs here agree) (at_file_declared ty n vs here at) (vars_located ty vs p here n located) (vars_faultless ty vs p here n h) (vars_held ty vs p here n g) word f found
   known_later (outer_func d ∷ p) here n lib agree at located h g word f found =
       let around = function_declaration file d ∷ here in
-      let agrees : AllStand whole ⊤ around = All-cons (Stands whole ⊤) (function_declaration file d) here ((λ word f e found. (function_matches d p here n h located word f e found).0), (λ sure. function_there d p here n h located lib (names_faultless d p here n h))) agree in
+      let agrees : AllStand whole ⊤ around = stands_next d p here n lib agree located h in
       let held = function_held d p here n g in
       by_test agrees held (bytes_eq d.word word && is_defined (placed here d).body)
       (known_later p around n (λ e a. inr (lib e a)) agrees (at_file_function file d here at) (function_located d p here n located) (function_faultless d p here n h) held.1 word f) found
@@ -460,6 +467,27 @@ module _ (file : List Outer) (scopes : List Names) where
             faultless = bodies;
           }
       by_test agrees held false rest k = rest k
+
+  -- each call that is still to come passes arrays by their names
+  outers_pass : (p : List Outer) (here : List Declaration) (n : ℕ) → LibraryIn here → AllStand whole ⊤ here → Located here (resolved_outers file here n p) → Faultless here n p
+      → All (PassesByName whole) (outers_calls whole here (resolved_outers file here n p))
+  outers_pass [] here n lib agree located h = All-nil (PassesByName whole)
+  outers_pass (outer_vars ty vs ∷ p) here n lib agree located h =
+      let ws = numbered (slot_in Static) n vs in
+      let more = declared ty ws here in
+      let whole_scope : AllStand whole ⊤ (here ++ []) = subst (λ (ds : List Declaration). AllStand whole ⊤ ds) (sym (append-nil here)) agree in
+      All-append (PassesByName whole) _ _ (variables_pass whole ⊤ Static ty n vs here [] whole_scope (none_left _ _ h))
+      (subst (λ (z : List Declaration). All (PassesByName whole) (outers_calls whole z (resolved_outers file more (n + length vs) p))) (sym (declared-resolved here [] ty ws here))
+      (outers_pass p more (n + length vs) (λ d a. among_declared d ty ws here (lib d a)) (agree_globals whole ty n vs here agree) (vars_located ty vs p here n located) (vars_faultless ty vs p here n h)))
+  outers_pass (outer_func d ∷ p) here n lib agree located h =
+      let around = function_declaration file d ∷ here in
+      let params = params_declared (numbered_params 0 d.params) [] in
+      let agrees : AllStand whole ⊤ around = stands_next d p here n lib agree located h in
+      let own = none_right (params_faults [] (numbered_params 0 d.params)) _ (none_right (name_faults here (placed here d)) _ (none_left (function_faults whole here (placed here d)) _ h)) in
+      let bodies : definition_faults d.ret params around (placed here d).body ≡ [] = ap (λ z. definition_faults d.ret params z (placed here d).body) (sym (scope-resolved here d)) ∙ own in
+      subst (λ (z : List Declaration). All (PassesByName whole) (definition_calls params z (placed here d).body ++ outers_calls whole z (resolved_outers file around n p))) (sym (scope-resolved here d))
+      (All-append (PassesByName whole) _ _ (definition_passes whole ⊤ d.ret d.body params around (agree_params whole 0 d.params [] around agrees) (length d.params) bodies)
+      (outers_pass p around n (λ e a. inr (lib e a)) agrees (function_located d p here n located) (function_faultless d p here n h)))
 
   module _ (faultless : Faultless library 0 file) (held : Held (outers_holes whole library whole)) where
     -- a name of the library has no definition
@@ -496,6 +524,9 @@ module _ (file : List Outer) (scopes : List Names) where
     known_if_any : (word : List ℕ) (o : Option Function) → definition word whole ≡ o → IsKnownIfAny whole scopes (scope_at_end file library 0 file) o
     known_if_any word None found = tt
     known_if_any word (Some f) found = known_later file library 0 (λ d a. a) all_agree at_start (λ w g e. inr e) faultless held word f found
+
+    pub whole_passes : All (PassesByName whole) (written_calls whole)
+    whole_passes = outers_pass file library 0 (λ d a. a) all_agree (λ w g e. inr e) faultless
 
     pub whole_from : (filling : Filling) → IsSteady filling → (W : World → Type 0) → ((ds : Names) → Contains scopes ds → (x : World) → IsTypedBy ds x → W x) → (w : World) → From W no_slot Any w (run_program filling whole w)
     whole_from filling steady W at_hole w =
@@ -693,3 +724,10 @@ runs-find p checked filling steady w =
     let scopes = holes (resolved p) in
     subst (λ (q : List Outer). RunFinds filling q w) checked.is_resolved
     (run_found p scopes (faultless_whole p checked) (All-contains_itself scopes) filling steady (IsTypedByOne scopes) (λ ds at y typed. record { scope = ds; is_scope = at; typed = typed }) (main_whole p checked) w)
+
+-- ---- arrays
+
+pub arrays-passed : ArraysArePassedByName
+arrays-passed p checked =
+    subst (λ (q : List Outer). All (PassesByName q) (written_calls q)) checked.is_resolved
+    (whole_passes p (holes (resolved p)) (faultless_whole p checked) (All-contains_itself (holes (resolved p))))

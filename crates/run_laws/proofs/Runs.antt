@@ -25,7 +25,8 @@ use Rattle.c_meaning.specs.Steps.{unit, object_of, number_of}
 use Rattle.c_meaning.specs.Meaning.{Filling, Called, decided, bump_op, slot_of, definition, params_of, takes_array, rest_of, passed, cell_count, make_variable, eval, index_of, evals, perform, store_list, declare_object, declare_local, declare, begin, test_of, step_of, exec, run_body, declare_global, declare_globals}
 use Rattle.run_laws.specs.Typed.{HasObject, EntityHasObject, IsTypedBy, Keeps, every_slot, KeepsObjects, IsSteady}
 use Rattle.run_laws.specs.Holes.{Names}
-use Rattle.run_laws.proofs.Well.{first_ty, IsArrayName, SuitsOne, Suits, ShapedOne, IndexIs, Shaped, Well, WellArgs, WellOption, WellList, WellInitial, WellVariables, WellFirst, WellCode, WellBody}
+use Rattle.run_laws.specs.Passing.{IsArrayName}
+use Rattle.run_laws.proofs.Well.{first_ty, SuitsOne, Suits, ShapedOne, IndexIs, Shaped, Well, WellArgs, WellOption, WellList, WellInitial, WellVariables, WellFirst, WellCode, WellBody}
 use Rattle.run_laws.specs.Places.{below}
 use Rattle.run_laws.specs.Reads.{IsLive}
 use Rattle.run_laws.proofs.Keeping.{AllWithin, all_within_more, keeps_refl, keeps_fewer, typed_moves, Any, From, from_going, from_over, from_other, from_bind, object_of_keeps}
@@ -89,19 +90,36 @@ shaped_suit ps (address e rest) [] w h = tt
 shaped_suit ps (address e rest) (g ∷ gs) w h =
     (subst (λ (a : Argument). SuitsOne (takes_array ps) (first_ty ps) a w) (sym h.0.1) tt, shaped_suit (rest_of ps) rest gs w h.1)
 
+-- the word of an array's name denotes the array
+pub array_denoted : (ds : Names) (ty : Ty) (e : Tree) → IsArrayName ds ty e → (word : List ℕ) × (denoted ds word ≡ Some (VariableEntity (slot_of e) ty true))
+array_denoted ds ty (name word slot s) h = (word, h)
+array_denoted ds ty (constant n word s) h = absurd h
+array_denoted ds ty (index word slot e s) h = absurd h
+array_denoted ds ty (call word args s) h = absurd h
+array_denoted ds ty (unary o e s) h = absurd h
+array_denoted ds ty (cast tz e s) h = absurd h
+array_denoted ds ty (binary o l r s) h = absurd h
+array_denoted ds ty (choice t a b s) h = absurd h
+array_denoted ds ty (assign o place e s) h = absurd h
+array_denoted ds ty (bump pre up place s) h = absurd h
+array_denoted ds ty (comma l r s) h = absurd h
+array_denoted ds ty hole h = absurd h
+array_denoted ds ty (hole_after e) h = absurd h
+
 -- the object of an array is live
-array_live : (ds : List Declaration) (w : World) (ty : Ty) (e : Tree) (n : ℕ) → IsTypedBy ds w → IsArrayName ds ty e → number_of (slot_of (resolved_tree ds e)) w ≡ Some n → IsLive w n ty
+array_live : (ds : List Declaration) (w : World) (ty : Ty) (e : Tree) (n : ℕ) → IsTypedBy ds w → IsArrayName ds ty e → number_of (slot_of e) w ≡ Some n → IsLive w n ty
 array_live ds w ty e n h a is =
-    let has = denoted_object ds w a.word a.slot ty true h a.denotes in
-    let same : Some has.number ≡ Some n = sym has.names ∙ ap (λ s. number_of s w) (sym a.is_slot) ∙ is in
+    let array = array_denoted ds ty e a in
+    let has = denoted_object ds w array.0 (slot_of e) ty true h array.1 in
+    let same : Some has.number ≡ Some n = sym has.names ∙ is in
     let number : has.number ≡ n = cc in
     record { object = has.object; lives = ap (λ k. slice_get w.objects k) (sym number) ∙ has.lives; typed = has.typed }
 
-pub passed_from : (k : Context) (array : Bool) (ty : Ty) (e : Tree) (m : Run ℤ) (w : World) → At k w → (array ≡ true → IsArrayName k.scope ty e) → (array ≡ false → Sound k m)
+pub passed_from : (k : Context) (array : Bool) (ty : Ty) (e : Tree) (m : Run ℤ) (w : World) → At k w → (array ≡ true → IsArrayName k.scope ty (resolved_tree k.scope e)) → (array ≡ false → Sound k m)
     → From k.waits k.slots (λ a x. ShapedOne array ty a x) w (passed array (slot_of (resolved_tree k.scope e)) m w)
 passed_from k true ty e m w at f g =
     from_bind (object_of (slot_of (resolved_tree k.scope e)) w) (λ n. pure (Array n)) (object_of_keeps k.slots (slot_of (resolved_tree k.scope e)) w)
-    (λ n x keeps is. from_going (Array n) x (keeps_refl k.slots x) (subst (λ (z : World). IsLive z n ty) (sym is.1) (array_live k.scope w ty e n at.typed (f refl) is.0)))
+    (λ n x keeps is. from_going (Array n) x (keeps_refl k.slots x) (subst (λ (z : World). IsLive z n ty) (sym is.1) (array_live k.scope w ty (resolved_tree k.scope e) n at.typed (f refl) is.0)))
 passed_from k false ty e m w at f g =
     from_bind (m w) (λ v. pure (Number v)) ((g refl).by w at) (λ v x keeps any. from_going (Number v) x (keeps_refl k.slots x) tt)
 

@@ -24,6 +24,7 @@ use Rattle.c_meaning.specs.declared.argument.Argument.TheVariants.{Number, Array
 use Rattle.run_laws.specs.Holes.{Names}
 use Rattle.run_laws.specs.Reads.{IsLive, is_element, GivesValue}
 use Rattle.run_laws.specs.Bodies.{HoldsList}
+use Rattle.run_laws.specs.Passing.{IsArrayName}
 
 -- the type of the first parameter
 abbrev pub first_ty : List Param → Ty
@@ -35,13 +36,6 @@ pub record IsNameOf (ds : Names) (word : List ℕ) (array : Bool) : Type 0 where
   pub slot : Slot
   pub ty : Ty
   pub denotes : denoted ds word ≡ Some (VariableEntity slot ty array)
-
--- an expression is the name of an array of that type
-pub record IsArrayName (ds : Names) (ty : Ty) (e : Tree) : Type 0 where
-  pub word : List ℕ
-  pub slot : Slot
-  pub denotes : denoted ds word ≡ Some (VariableEntity slot ty true)
-  pub is_slot : slot_of (resolved_tree ds e) ≡ slot
 
 -- an array is given where one is taken, and it is of the type that is taken
 abbrev pub SuitsOne : Bool → Ty → Argument → World → Type 0
@@ -134,7 +128,7 @@ module _ (program : List Outer) (scopes : List Names) (there : Type 0) (may_call
       pub WellArgs : List Param → Args → Type 0
       WellArgs ps no_args = ⊤
       WellArgs ps (value e rest) =
-          (takes_array ps ≡ true → IsArrayName ds (first_ty ps) e)
+          (takes_array ps ≡ true → IsArrayName ds (first_ty ps) (resolved_tree ds e))
           × ((takes_array ps ≡ false → Well true e) × WellArgs (rest_of ps) rest)
       WellArgs ps (format text s rest) = WellArgs (rest_of ps) rest
       WellArgs ps (address e rest) = (is_place e ≡ true) × (Well true e × WellArgs (rest_of ps) rest)

@@ -1,7 +1,8 @@
--- In a run of a program the slot of each name that is read, written or passed names an object of
--- its kind, each function that is called is there and takes its arguments, an object has a cell for
--- each of its initialisers, and control leaves a function's body as it may: in statements, in
--- declarations, in the bodies of called functions, and so in the whole run.
+-- In a run of a program the slot of each name that is read, written or passed names a live object,
+-- which has one cell where a number is meant, each function that is called is there and takes its
+-- arguments, an object has a cell for each of its initialisers, and control leaves a function's body
+-- as it may: in statements, in declarations, in the bodies of called functions, and so in the whole
+-- run.
 --
 -- So these cases of the meaning of programs are never met in a run of a checked program: `load`,
 -- `store` and `object_of` of a slot that names no live object, and `load` or `store` of a number
@@ -17,10 +18,14 @@
 -- The other cases that trap are what C leaves undefined: a number that is uninitialised, or an
 -- element outside of its array; a result out of range, a division by zero, a shift too far and a
 -- left shift of a negative number; the value of a call that came to its function's end; and a
--- number too wide at `%d`. `no_hole` is one of the fillings of which the laws speak: it is met only
--- where the program has a hole, as a checked program may, but none whose parts stand in text order
--- (`OrderedProgramsHaveNoHole` and `NoHoleIsMet` in `Laws`). That the word of an element denotes an
--- array, and no number, is said by `NamesHaveObjects` there.
+-- number too wide at `%d`. Two more are met only where the program has a hole, as a checked program
+-- may, but none whose parts stand in text order (`OrderedProgramsHaveNoHole` in `Laws`): `no_hole`,
+-- which is one of the fillings of which the laws speak (`NoHoleIsMet` there), and `outcome_of` of a
+-- run that waits, since it waits in a state that is typed by the scope of a hole (`HolesAreTyped`
+-- there).
+--
+-- That the word of an element denotes an array, and no number, is said by `NamesHaveObjects` there;
+-- that what is passed as an array is the name of one, by `ArraysArePassedByName`.
 use Rattle.std.specs.Prelude.{⊤, ◌≡◌, ◌≢◌, ◌≤◌, ◌<◌, ℕ, zero, suc, ℤ, pos, Bool, true, false, List, [], ◌∷◌, length, codes, All, Option, Some, None, is_some}
 use Rattle.c_tree.specs.declared.program.Param.{Param}
 use Rattle.c_tree.specs.declared.stmt.Slot.{Slot}

@@ -21,6 +21,7 @@ use Rattle.run_laws.specs.Holes.{Names, code_holes, holes}
 use Rattle.run_laws.specs.Places.{file_scope, IsThere, IsScopeIn}
 use Rattle.run_laws.specs.Reads.{Finds}
 use Rattle.run_laws.specs.Bodies.{in_calls, RunFinds}
+use Rattle.run_laws.specs.Passing.{PassesByName, written_calls}
 
 -- a state is typed by one of these scopes
 pub record IsTypedByOne (scopes : List Names) (w : World) : Type 0 where
@@ -87,8 +88,8 @@ StatementsKeepTypes = (p : List Outer) → IsChecked p → (filling : Filling) �
 -- An expression without a fault, which is a number, or where its value isn't wanted perhaps a call
 -- without a result, in which each name has its slot, evaluated in such a program from a state that
 -- is typed by its scope and that of the file: each slot that is read, written or passed then names
--- a live object of its kind, what is called is there and takes its arguments, and so it is in the
--- functions that it calls.
+-- a live object, which has one cell where a number is meant, what is called is there and takes its
+-- arguments, and so it is in the functions that it calls.
 abbrev pub ExpressionsFindObjects : Type 0
 ExpressionsFindObjects = (p : List Outer) → IsChecked p → (filling : Filling) → IsSteady filling
     → (left n : ℕ) (ds : Names) → IsScopeIn p n ds → All (IsThere p) ds
@@ -97,13 +98,19 @@ ExpressionsFindObjects = (p : List Outer) → IsChecked p → (filling : Filling
     → (w : World) → IsTypedBy ds w → IsTypedBy (file_scope p) w
     → Finds filling p (calls filling p left) (in_calls filling p left) wanted e w
 
--- In a run of such a program each slot that is read, written or passed names a live object of its
--- kind, what is called is there and takes its arguments, an object has a cell for each of its
--- initialisers, and control leaves a function's body as it may: in whatever state the run begins,
--- and whatever its holes do, as long as they leave the variables their objects.
+-- In a run of such a program each slot that is read, written or passed names a live object, which
+-- has one cell where a number is meant, what is called is there and takes its arguments, an object
+-- has a cell for each of its initialisers, and control leaves a function's body as it may: in
+-- whatever state the run begins, and whatever its holes do, as long as they leave the variables
+-- their objects.
 abbrev pub RunsFindObjects : Type 0
 RunsFindObjects = (p : List Outer) → IsChecked p → (filling : Filling) → IsSteady filling
     → (w : World) → RunFinds filling p w
+
+-- In each call that is written in a checked program, what stands at an array parameter of the
+-- definition that is called is the name of an array of the parameter's type (C11 6.7.6.3p7).
+abbrev pub ArraysArePassedByName : Type 0
+ArraysArePassedByName = (p : List Outer) → IsChecked p → All (PassesByName p) (written_calls p)
 
 -- a program whose parts stand in text order, as those of a parsed source do, has no hole
 abbrev pub OrderedProgramsHaveNoHole : Type 0

@@ -3,7 +3,8 @@
 
 ghost use Rattle.run_laws.specs.Laws.{HolesAreTyped, HolesFit, NamesHaveObjects};
 ghost use Rattle.run_laws.specs.Laws.{TypedStatesShowVariables, StatementsKeepTypes, ExpressionsFindObjects};
-ghost use Rattle.run_laws.specs.Laws.{RunsFindObjects, OrderedProgramsHaveNoHole, NoHoleIsMet, FormatsAgree};
+ghost use Rattle.run_laws.specs.Laws.{RunsFindObjects, ArraysArePassedByName, OrderedProgramsHaveNoHole};
+ghost use Rattle.run_laws.specs.Laws.{NoHoleIsMet, FormatsAgree};
 
 /// Wherever a run of a checked program waits for a hole, each variable that is in scope at it (at one of them, where
 /// there are several) has a live object of its type (C11 6.2.4), and each number in an object is a value of that type.
@@ -44,6 +45,12 @@ pub fn expressions_find_objects()
 /// is called. So no such run ends as trapped because a part of its tree is ill-formed, unless that part is a hole.
 pub fn runs_find_objects()
     ensures { RunsFindObjects }
+{}
+
+/// In each call that is written in a checked program, what stands at an array parameter of the definition that is called
+/// is the name of an array of the parameter's type.
+pub fn arrays_are_passed_by_name()
+    ensures { ArraysArePassedByName }
 {}
 
 /// A program whose parts stand in text order, as those of a parsed source do, has no hole. Where a checked program has
