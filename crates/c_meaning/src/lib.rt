@@ -19,7 +19,7 @@ pub use bind::{bind_params, decided, make_variable, store_zeros};
 pub use context::CALL_LIMIT;
 pub use laws::{blocks_end, cells_fit, loops_turn, units_fall};
 pub use library::{call_abs, call_exit, call_getchar, call_printf, call_putchar, call_scanf};
-pub use outcome::Outcome;
+pub use outcome::{Outcome, finished, outcome_at};
 pub use plain::plain_run;
 pub use state::State;
 pub use stop::{End, Flow, Stop};

@@ -5,16 +5,15 @@ ghost use Rattle.c_tree.specs.Views.{outer, program as program_tree};
 ghost use Rattle.c_types.specs.Shown.{tree_of};
 ghost use Rattle.c_meaning.specs.World.{Gives};
 ghost use Rattle.c_meaning.specs.Meaning.{own_run};
-ghost use Rattle.c_meaning.specs.Ends.{outcome, finished as finished_with};
+ghost use Rattle.c_meaning.specs.Ends.{outcome};
 
 use crate::bind::definition;
 use crate::context::{CALL_LIMIT, Context};
 use crate::globals::make_globals;
-use crate::outcome::Outcome;
+use crate::outcome::{Outcome, finished, outcome_at};
 use crate::run::call_function;
 use crate::state::State;
 use crate::stop::{End, Stop};
-use c_arith::byte_of;
 use c_stdio::Test;
 use c_tree::{External, NoMemory, Program};
 use c_types::Typed;
@@ -45,28 +44,8 @@ fn run_on(alloc: Global, program: &Program, test: &Test, limit: u64) -> Result<O
     let mut state = State::new(alloc, test, limit);
     match run_program(alloc, &program.externals, &mut state) {
         Ok(value) => Ok(finished(test.status, &state, value)),
-        Err(Stop::Over(End::Exit(value))) => Ok(finished(test.status, &state, value)),
-        Err(Stop::Over(End::Wrong)) => Ok(Outcome::Wrong),
-        Err(Stop::Over(End::Trapped)) => Ok(Outcome::Trapped),
-        Err(Stop::Over(End::Budget)) => Ok(Outcome::Budget),
-        Err(Stop::Over(End::Depth)) => Ok(Outcome::Depth),
-        Err(Stop::Over(End::Cells)) => Ok(Outcome::Cells),
+        Err(Stop::Over(end)) => Ok(outcome_at(test.status, &state, end)),
         Err(Stop::Memory(error)) => Err(error),
-    }
-}
-
-/// The outcome after the return of a status, where the test's is the one that is wanted.
-fn finished(wanted: u8, state: &State<'_>, value: i64) -> Outcome
-    ensures { result ≡ finished_with wanted state.now.io.expected value }
-{
-    if !state.has_written_all() {
-        return Outcome::Short;
-    }
-    let status = byte_of(value);
-    if status == wanted {
-        Outcome::Passed
-    } else {
-        Outcome::Status(status)
     }
 }
 
