@@ -4,6 +4,7 @@ pub mod Stacks
 pub mod Enough
 pub mod Moving
 pub mod Nexts
+pub mod SuperSteps
 pub mod CallSteps
 pub mod Taking
 pub mod Pauses

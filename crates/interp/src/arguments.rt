@@ -1,6 +1,6 @@
 //! The arguments of calls, which are on the stack.
 
-ghost use Rattle.std.specs.Prelude.{◌≡◌, ◌∷◌, IfOk, option_map, List};
+ghost use Rattle.std.specs.Prelude.{◌≡◌, ◌∷◌, [], IfOk, option_map, List};
 ghost use Rattle.c_meaning.specs.declared.argument.Argument.{Argument as Argument_of};
 ghost use Rattle.interp_code.specs.Go.{take_before, taken};
 ghost use Rattle.interp.specs.Left.{upper};
@@ -16,7 +16,8 @@ fn take_argument(
     given: &Given,
     values: &mut Vec<i64>,
 ) -> Result<Option<Argument>, NoMemory>
-    ensures { (gs : List Argument_of) → IfOk result (λ o. take_before given.now gs (upper values.old.items) ≡
+    ensures { (gs : List Argument_of) → IfOk result (λ o.
+        take_before given.now gs (upper values.old.items) ≡
         option_map (λ a. record { arguments = a ∷ gs; below = upper values.new.items }) o) }
 {
     match given {
@@ -36,16 +37,18 @@ fn take_argument(
     }
 }
 
-/// Takes the arguments of a call from the stack, if all are there. The last one is uppermost.
+/// Takes the arguments of a call from the stack into an empty list, if all are there. The last one is uppermost.
 pub fn take_arguments(
     alloc: Global,
     given: &[Given],
     values: &mut Vec<i64>,
+    empty: Vec<Argument>,
 ) -> Result<Option<Vec<Argument>>, NoMemory>
+    requires { empty.items ≡ [] }
     ensures { IfOk result (λ o. taken given.now (upper values.old.items) ≡
         option_map (λ gs. record { arguments = gs.items; below = upper values.new.items }) o) }
 {
-    let mut arguments = Vec::new(alloc);
+    let mut arguments = empty;
     let mut left = given.len();
     'each: while left > 0 {
         left -= 1;

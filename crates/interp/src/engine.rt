@@ -1,6 +1,6 @@
 //! What a machine consists of.
 
-use c_meaning::{End, State};
+use c_meaning::{Argument, End, State};
 
 /// What a part of a function stands in.
 #[derive(Clone, Copy, Debug)]
@@ -30,6 +30,15 @@ pub struct Caller {
     pub slots: Vec<Option<usize>>,
 }
 
+/// The stacks of a call that is over. They keep their memory for another call.
+#[derive(Drop)]
+pub struct Stacks {
+    /// Numbers.
+    pub values: Vec<i64>,
+    /// Scopes and loops.
+    pub frames: Vec<Frame>,
+}
+
 /// The innermost call, the calls outside of it, and the state of the run.
 #[derive(Drop)]
 pub struct Engine<'a> {
@@ -43,6 +52,12 @@ pub struct Engine<'a> {
     pub frames: Vec<Frame>,
     /// The calls outside of it, the innermost last.
     pub callers: Vec<Caller>,
+    /// The stacks of calls that are over.
+    pub spare: Vec<Stacks>,
+    /// Which objects the variables of calls meant that are over; they keep their memory for another call.
+    pub spare_slots: Vec<Vec<Option<usize>>>,
+    /// The arguments of the last call, which keep their memory for another call.
+    pub spare_arguments: Vec<Argument>,
     /// The state of the run.
     pub state: State<'a>,
 }

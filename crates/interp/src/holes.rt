@@ -22,7 +22,8 @@ impl<'a> Engine<'a> {
 
     /// A hole is due, after the upper value.
     pub fn ask_after(&mut self, code: &Code, next: usize) -> Result<Moved, Stop>
-        requires plan { plan_at code.now.nodes self.old.at ≡ ask_after_of (plan_at code.now.nodes next) }
+        requires plan { plan_at code.now.nodes self.old.at ≡
+            ask_after_of (plan_at code.now.nodes next) }
         requires lower { next < min self.old.at (length code.now.nodes) }
         ensures { StepsTo code.now self.old self.new result }
     {

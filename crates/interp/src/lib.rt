@@ -14,6 +14,7 @@ mod objects;
 mod places;
 mod run;
 mod steps;
+mod supers;
 
 pub use laws::{cells_fit_while_waiting, ends_without_hole, machines_follow, trees_are_whole};
 pub use machine::{Event, Machine, View};

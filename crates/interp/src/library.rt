@@ -1,5 +1,6 @@
 //! Calls of the library, and the begin of other calls.
 
+ghost use Rattle.std.specs.Prelude.{◌≡◌, []};
 ghost use Rattle.c_meaning.specs.World.{Gives};
 ghost use Rattle.interp_code.specs.Go.{do_call};
 ghost use Rattle.interp.specs.Joined.{no_function, opened, opening_of};
@@ -41,16 +42,18 @@ pub struct Opened {
     pub count: usize,
 }
 
-/// Begins a call whose unit is taken, and makes the objects of its parameters.
+/// Begins a call whose unit is taken, with no variable yet, and makes the objects of its parameters.
 pub fn open(
     alloc: Global,
+    empty: Vec<Option<usize>>,
     params: &[Param],
     arguments: &[Argument],
     state: &mut State<'_>,
 ) -> Result<Opened, Stop>
+    requires { empty.items ≡ [] }
     ensures { Gives opening_of result state.new (opened params.now arguments.now state.old) }
 {
-    let slots = state.swap(Vec::new(alloc));
+    let slots = state.swap(empty);
     let count = state.object_count();
     bind_params(alloc, params, arguments, state)?;
     Ok(Opened { slots, count })

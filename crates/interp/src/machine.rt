@@ -1,15 +1,14 @@
 //! The machine.
 
-ghost use Rattle.std.specs.Prelude.{◌≡◌, ◌+◌, [], ◌∷◌, List, Option, ℤ, pos, IfOk, OnOk, OnErr, IsErr};
+ghost use Rattle.std.specs.Prelude.{◌≡◌, ◌+◌, [], ◌∷◌, List, Option, ℤ, pos, IfOk, OnOk, OnErr, IsOk, IsErr};
 ghost use Rattle.c_types.specs.Reads.{element_at};
-ghost use Rattle.c_meaning.specs.Ends.{outcome_at, finished as finished_with, first_world};
-ghost use Rattle.interp.specs.Future.{code_of, wanted_of, future, state_of, Waits, HasFailed, next_event, next_state, SaysWhether, Continues, Follows};
+ghost use Rattle.c_meaning.specs.Ends.{outcome_at as outcome_with, first_world};
+ghost use Rattle.interp.specs.Future.{code_of, wanted_of, future, state_of, Waits, HasEnded, HasFailed, next_event, next_state, SaysWhether, Continues, Follows};
 ghost use Rattle.interp.specs.Seen.{GoesOn, seen, cells_in};
 
 use crate::engine::{Engine, Pause};
 use crate::steps::Steps;
-use c_arith::byte_of;
-use c_meaning::{CALL_LIMIT, End, Outcome, State};
+use c_meaning::{CALL_LIMIT, End, Outcome, State, finished, outcome_at};
 use c_stdio::Test;
 use c_tree::{NoMemory, Slot};
 use c_types::Reads;
@@ -77,6 +76,9 @@ impl<'a> Machine<'a> {
             values: Vec::new(alloc),
             frames: Vec::new(alloc),
             callers: Vec::new(alloc),
+            spare: Vec::new(alloc),
+            spare_slots: Vec::new(alloc),
+            spare_arguments: Vec::new(alloc),
             state: State::new(alloc, test, limit),
         };
         Ok(Machine {
@@ -88,19 +90,22 @@ impl<'a> Machine<'a> {
         })
     }
 
-    /// Runs to the next hole, or to the end. Where a hole waits already, that is the next one.
+    /// Runs to the next hole, or to the end. Where a hole waits already, that is the next one; where the run is over,
+    /// its end is.
     ///
     /// # Errors
     ///
     /// `NoMemory` where memory runs out, and from then on.
     pub fn next<L: Ledger>(&mut self, steps: &mut Steps<L>) -> Result<Event, NoMemory>
         ensures again { HasFailed self.old → IsErr result }
+        ensures ended { HasEnded self.old → IsOk result }
         ensures failed { OnErr result (HasFailed self.new) }
         ensures event { IfOk result (λ e. e ≡ next_event self.old) }
         ensures waits { IfOk result (λ e. SaysWhether e self.new) }
         ensures future { OnOk result (Continues self.old self.new) }
         ensures state { OnOk result (state_of self.new ≡ next_state self.old) }
-        ensures ticks { OnOk result (steps.new + (state_of self.new).units ≡ steps.old + (state_of self.old).units) }
+        ensures ticks { OnOk result (steps.new + (state_of self.new).units
+            ≡ steps.old + (state_of self.old).units) }
     {
         match self.phase {
             Phase::Ready => self.go_on(None, steps),
@@ -113,17 +118,11 @@ impl<'a> Machine<'a> {
     }
 
     /// The outcome of a run that is over.
+    #[tactic(auto, using(crate::proofs::Machines::over_untaped))]
     fn over(&self, end: End) -> Outcome
-        ensures { result ≡ outcome_at (wanted_of self.now) end (state_of self.now) }
+        ensures { result ≡ outcome_with (wanted_of self.now) end (state_of self.now) }
     {
-        match end {
-            End::Wrong => Outcome::Wrong,
-            End::Trapped => Outcome::Trapped,
-            End::Budget => Outcome::Budget,
-            End::Depth => Outcome::Depth,
-            End::Cells => Outcome::Cells,
-            End::Exit(value) => finished(self.wanted, &self.engine.state, value),
-        }
+        outcome_at(self.wanted, &self.engine.state, end)
     }
 
     /// Runs on from where the machine is, with the value of the first hole, if it has one.
@@ -138,7 +137,8 @@ impl<'a> Machine<'a> {
         ensures waits { IfOk result (λ e. SaysWhether e self.new) }
         ensures future { OnOk result (Continues self.old self.new) }
         ensures state { OnOk result (state_of self.new ≡ next_state self.old) }
-        ensures ticks { OnOk result (steps.new + (state_of self.new).units ≡ steps.old + (state_of self.old).units) }
+        ensures ticks { OnOk result (steps.new + (state_of self.new).units
+            ≡ steps.old + (state_of self.old).units) }
     {
         match self.engine.run(self.alloc, self.code, given, steps) {
             Ok(Pause::Hole(old)) => {
@@ -163,7 +163,8 @@ impl<'a> Machine<'a> {
     /// The value of the hole that waits; none is a trap. It takes no memory.
     pub fn fill(&mut self, value: Option<i64>)
         requires { Waits self.old }
-        ensures future { (answers : List (Option ℤ)) → future self.new answers ≡ future self.old (value ∷ answers) }
+        ensures future { (answers : List (Option ℤ)) →
+            future self.new answers ≡ future self.old (value ∷ answers) }
         ensures waits { Waits self.new → ⊥ }
         ensures failed { HasFailed self.new → ⊥ }
         ensures state { state_of self.new ≡ state_of self.old }
@@ -183,22 +184,8 @@ impl<'a> Machine<'a> {
     }
 }
 
-/// The outcome after the return of a status, where the test's is the one that is wanted.
-fn finished(wanted: u8, state: &State<'_>, value: i64) -> Outcome
-    ensures { result ≡ finished_with wanted state.now.io.expected value }
-{
-    if !state.has_written_all() {
-        return Outcome::Short;
-    }
-    let status = byte_of(value);
-    if status == wanted {
-        Outcome::Passed
-    } else {
-        Outcome::Status(status)
-    }
-}
-
-/// The variables of a run, of file scope and of the innermost call.
+/// The variables of a run, of file scope and of the innermost call, by their slots. The slot of a variable that is out
+/// of scope may name nothing, or the object of another variable.
 #[derive(Drop)]
 pub struct View<'m, 'a> {
     state: &'m State<'a>,

@@ -11,7 +11,7 @@ ghost use Rattle.interp_code.specs.Holed.{value_plan, list_plan, object_plan, de
 use crate::code::Nodes;
 use crate::context::Context;
 use crate::expressions::{flat_right, flat_value};
-use crate::node::Node;
+use crate::node::{ClearNode, CreateNode, Node};
 use c_tree::{Declarator, Expr, NoMemory, Shape, Slot, Start, Ty};
 
 /// Where a declaration stands.
@@ -103,12 +103,12 @@ fn flat_object(
 {
     let slot = declarator.slot;
     match &declarator.start {
-        Start::Bare => nodes.push(Node::Create {
+        Start::Bare => nodes.push(Node::Create(CreateNode {
             ty,
             slot,
             count: cell_count(declarator.shape, 0),
             next,
-        }),
+        })),
         Start::One(e) => {
             let store = flat_store(nodes, slot, next)?;
             let value = flat_right(context, nodes, e, store)?;
@@ -116,12 +116,12 @@ fn flat_object(
                 value: 0,
                 next: value,
             })?;
-            nodes.push(Node::Create {
+            nodes.push(Node::Create(CreateNode {
                 ty,
                 slot,
                 count: cell_count(declarator.shape, 1),
                 next: first,
-            })
+            }))
         }
         Start::List(elements) => flat_listed(context, nodes, ty, declarator, elements, next),
     }
@@ -144,19 +144,19 @@ fn flat_listed(
     let slot = declarator.slot;
     let listed = elements.len();
     let count = cell_count(declarator.shape, listed);
-    let clear = nodes.push(Node::Clear {
+    let clear = nodes.push(Node::Clear(ClearNode {
         slot,
         from: listed,
         count: count.saturating_sub(listed),
         next,
-    })?;
+    }))?;
     let list = flat_list(context, nodes, slot, elements, clear)?;
-    nodes.push(Node::Create {
+    nodes.push(Node::Create(CreateNode {
         ty,
         slot,
         count,
         next: list,
-    })
+    }))
 }
 
 /// The code of a declarator. In a function an initialiser takes a unit; at file scope an object without

@@ -12,7 +12,7 @@ use crate::calls::{callee_of, given_args, params_from, params_of, slot_of, takes
 use crate::code::Nodes;
 use crate::context::Context;
 use crate::holes::stands;
-use crate::node::Node;
+use crate::node::{BumpNode, CallNode, Node};
 use c_tree::{Arg, BinOp, Expr, ExprNode, LocKind, NoMemory, Param, Slot, is_pure};
 
 /// The code of an expression whose value is wanted.
@@ -165,12 +165,12 @@ fn flat_bump(
         (plan_at nodes.old next))) }
 {
     let slot = slot_of(context, place);
-    let step = nodes.push(Node::Bump {
+    let step = nodes.push(Node::Bump(BumpNode {
         before,
         up,
         slot,
         next,
-    })?;
+    }))?;
     flat_index(context, nodes, place, step)
 }
 
@@ -250,12 +250,12 @@ fn flat_call(
         (call_plan context.now word.now (args_of args.now) wanted (plan_at nodes.old next))) }
 {
     let params = params_of(context, word);
-    let call = nodes.push(Node::Call {
+    let call = nodes.push(Node::Call(CallNode {
         callee: callee_of(context.externals, word),
         wanted,
         given: given_args(context, params, args)?,
         next,
-    })?;
+    }))?;
     flat_args(context, nodes, params, args, call)
 }
 

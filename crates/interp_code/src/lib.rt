@@ -6,6 +6,7 @@ mod code;
 mod context;
 mod declarations;
 mod expressions;
+mod fuse;
 mod holes;
 mod laws;
 mod node;
@@ -15,6 +16,9 @@ mod statements;
 
 pub use code::Code;
 pub use laws::plans_are_right;
-pub use node::{Callee, Given, Node};
+pub use node::{
+    AssignNode, BumpNode, CallNode, Callee, ClearNode, CreateNode, Given, Node, Operand,
+    Superinstruction,
+};
 pub use program::flatten;
 pub use routine::Routine;

@@ -15,7 +15,7 @@ use crate::calls::place_of;
 use crate::code::{Code, Nodes};
 use crate::context::Context;
 use crate::declarations::{Scope, flat_declaration};
-use crate::node::{Callee, Node};
+use crate::node::{CallNode, Callee, Node};
 use crate::routine::Routine;
 use crate::statements::{Exits, flat_items};
 use c_tree::{External, Func, Item, Loc, NoMemory, Param, Program, copy_text};
@@ -124,12 +124,12 @@ fn flat_start(context: &Context<'_>, nodes: &mut Nodes) -> Result<usize, NoMemor
     ensures { IfOk result (λ at. Grown nodes.old nodes.new at (start_plan context.now)) }
 {
     let give = nodes.push(Node::GiveValue)?;
-    let mut at = nodes.push(Node::Call {
+    let mut at = nodes.push(Node::Call(CallNode {
         callee: Callee::Function(place_of(context.externals, b"main".as_slice())),
         wanted: true,
         given: Vec::new(context.alloc),
         next: give,
-    })?;
+    }))?;
     let mut left = context.externals.len();
     'each: while left > 0 {
         left -= 1;

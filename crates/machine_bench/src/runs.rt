@@ -1,8 +1,6 @@
 //! Runs by the interpreter and by the machine.
 
 ghost use Rattle.std.specs.Prelude.{◌≡◌, ◌≤◌, ◌<◌};
-ghost use Rattle.c_types.specs.Evidence.{IsOrdered};
-ghost use Rattle.c_types.specs.Shown.{tree_of};
 
 use crate::jobs::source;
 use anyhow::{Context, Result};
@@ -74,7 +72,6 @@ fn by_machine<L: Ledger>(
     runs: u64,
     blank: Blank,
 ) -> Result<Option<Outcome>>
-    requires ordered { IsOrdered (tree_of typed.now) }
     requires name { blank.name ≡ L.name }
     requires parts { blank.parts ≡ L.parts }
     requires some { 0 < L.parts }

@@ -1,11 +1,11 @@
-use Rattle.std.proofs.Common.{◌≡◌, rules, sym, ◌∙◌, ◌-◌, [], Some, arith}
+use Rattle.std.proofs.Common.{◌≡◌, sym, ◌∙◌, ◌-◌, [], Some, arith}
 use Rattle.interp.specs.Left.{upper}
 use Rattle.interp.proofs.Taking.{take_more, none_taken, last_taken}
 use Rattle.interp.proofs.arguments.take_arguments.Goals as goal
 
 pub each-init : goal.each-init
 each-init c =
-    let none : c.new-arguments.result.items ≡ [] = search rules in
+    let none : c.args.empty.items ≡ [] = c.requires in
     let vs = upper c.args.values.now.items in
     record {
       within = omega arith;

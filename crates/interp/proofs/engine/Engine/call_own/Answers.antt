@@ -22,26 +22,26 @@ returns-in_default-routine g c =
     let us = upper c.take_arguments.new.values.items in
     own_lacks c.args.code.now _ _ c.args.place c.args.wanted c.args.given.now c.args.next (c.args.self.now.room - 1) _ gs us c.requires.plan (rw c.in-Some.is at c.in_ok-taken.ensures) (omega arith) (search rules) refl
 
-pub returns : goal.returns
-returns g c =
+pub returns-in-Err : goal.returns-in-Err
+returns-in-Err g c =
     let gs = c.in-Some.arguments.items in
     let us = upper c.take_arguments.new.values.items in
     let entry = entry_at c.args.code.now.nodes c.in-Some-routine.routine.now in
     own_err c.args.code.now _ _ c.args.place c.args.wanted c.args.given.now c.args.next (c.args.self.now.room - 1) _ gs us entry c.in-Err.stop c.requires.plan (rw c.in-Some.is at c.in_ok-taken.ensures) (omega arith) (search rules) c.in-Err.ensures
 
-pub returns-in-Ok : goal.returns-in-Ok
-returns-in-Ok g c =
+pub returns-in-Err-open : goal.returns-in-Err-open
+returns-in-Err-open g c =
     let gs = c.in-Some.arguments.items in
     let us = upper c.take_arguments.new.values.items in
     let entry = entry_at c.args.code.now.nodes c.in-Some-routine.routine.now in
     opened_err c.args.code.now _ _ c.args.place c.args.wanted c.args.given.now c.args.next (c.args.self.now.room - 1) _ _ gs us entry c.take_unit.new.self c.in-Err-open.stop c.requires.plan (rw c.in-Some.is at c.in_ok-taken.ensures) (omega arith) (search rules) c.in-Ok.ensures c.tick.ensures (search rules)
 
-pub returns-in-Ok-open : goal.returns-in-Ok-open
-returns-in-Ok-open g c =
+pub returns-in_ok-enter-in-Ok-open : goal.returns-in_ok-enter-in-Ok-open
+returns-in_ok-enter-in-Ok-open g c =
     let gs = c.in-Some.arguments.items in
     let us = upper c.take_arguments.new.values.items in
     let entry = entry_at c.args.code.now.nodes c.in-Some-routine.routine.now in
     let old = c.args.self.now in
-    let mid : Engine = record { room = old.room; at = old.at; values = c.take_arguments.new.values; frames = old.frames; callers = old.callers; state = c.open.new.state } in
+    let mid : Engine = record { room = old.room; at = old.at; values = c.take_arguments.new.values; frames = old.frames; callers = old.callers; spare = old.spare; spare_slots = c.empty_slots-empty.new.spare; spare_arguments = c.in-Some.arguments; state = c.open.new.state } in
     spends_moves c.args.code.now _ _ _ _ c.tick.ensures
     (own_goes c.args.code.now _ mid _ c.args.place c.args.wanted c.args.given.now c.args.next _ _ gs us entry c.take_unit.new.self _ c.in-Ok-open.opened c.requires.plan (rw c.in-Some.is at c.in_ok-taken.ensures) (search rules) refl c.in-Ok.ensures (search rules) c.tick.ensures c.in_ok-enter-in-Ok-open.ensures refl refl refl refl c.requires.lower)

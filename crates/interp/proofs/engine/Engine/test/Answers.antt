@@ -10,7 +10,7 @@ returns-in-Err g c = test_err c.args.code.now _ _ c.pop.new.self.items c.in-Some
 pub returns-in_ok-push-in-Ok : goal.returns-in_ok-push-in-Ok
 returns-in_ok-push-in-Ok g c =
     let old : Engine = c.args.self.now in
-    let new : Engine = record { room = old.room; at = c.args.next; values = old.values; frames = c.push.new.self; callers = old.callers; state = c.take_unit.new.self } in
+    let new : Engine = record { room = old.room; at = c.args.next; values = old.values; frames = c.push.new.self; callers = old.callers; spare = old.spare; spare_slots = old.spare_slots; spare_arguments = old.spare_arguments; state = c.take_unit.new.self } in
     spends_moves c.args.code.now old new _ _ (search rules) (test_goes c.args.code.now old new c.pop.new.self.items c.in-Some-Turn.turn c.args.next c.requires.plan (search rules) c.in-Ok.ensures refl (search rules) (record { at = refl; room = refl; callers = refl }) c.requires.lower)
 
 pub returns-in-Some-Scope : goal.returns-in-Some-Scope
