@@ -16,7 +16,7 @@ const PLAIN: &str = "int main(void) { int a = 1; if (a) a = 0; return 0; }";
 const IMPURE: &str = "int main(void) { int a = 1; if (a = 0) return 1; return 0; }";
 
 /// The code of a program, with a hole at the location of that number.
-fn code_of(alloc: Global, source: &str, hole: Option<usize>) -> Result<Code, Fail> {
+pub fn code_of(alloc: Global, source: &str, hole: Option<usize>) -> Result<Code, Fail> {
     (source.len() < 10_000).then_some(()).ok_or("too long")?;
     let end = source.len() as u32;
     let tokens = lex(alloc, source.as_bytes())?;

@@ -3,3 +3,5 @@
 
 #[cfg(test)]
 mod holes;
+#[cfg(test)]
+mod joined;

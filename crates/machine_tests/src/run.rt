@@ -57,6 +57,11 @@ pub fn holed(alloc: Global, source: &str, kind: LocKind, passed: usize) -> Resul
     Ok(flatten(alloc, &program, Some(&location))?)
 }
 
+/// The code of a program without a hole.
+pub fn whole(alloc: Global, source: &str) -> Result<Code, Fail> {
+    Ok(flatten(alloc, &typed(alloc, source)?, None)?)
+}
+
 /// The events of a run whose holes are given these answers, up to its end, or to the hole that has none; and the event
 /// after it.
 pub fn events(

@@ -5,14 +5,14 @@ ghost use Rattle.c_types.specs.Evidence.{IsOrdered};
 ghost use Rattle.c_types.specs.Shown.{tree_of};
 
 use c_lex::lex;
-use c_location::Change;
 use c_parse::parse;
 use c_tree::{
     BinOp, Declarator, Expr, ExprNode, External, Func, Item, NoMemory, Program, Shape, Slot, Span,
     Start, Stmt, StmtNode, Text, Ty,
 };
 use c_types::{Typed, check};
-use patch_text::{splice_expr, splice_guarded, splice_joined};
+use patch_print::splice;
+use patch_space::Space;
 use std::alloc::Global;
 use std::test::Fail;
 
@@ -104,19 +104,21 @@ pub fn checked(alloc: Global, source: &[u8]) -> Result<Typed, Fail>
     Ok(check(alloc, tree, end)?)
 }
 
-/// The source with this change of the text of that span.
+/// The source with the edit of the patch of that rank.
 pub fn text_with(
     alloc: Global,
     source: &[u8],
-    at: Span,
-    change: &Change,
-) -> Result<Vec<u8>, NoMemory> {
-    match change {
-        Change::Replaced(new) => splice_expr(alloc, source, at, new),
-        Change::Narrowed(bound) => splice_joined(alloc, source, at, BinOp::Both, bound),
-        Change::Widened(bound) => splice_joined(alloc, source, at, BinOp::Either, bound),
-        Change::Guarded(test) => splice_guarded(alloc, source, at, test),
-    }
+    program: &Typed,
+    space: &Space,
+    rank: u32,
+) -> Result<Vec<u8>, Fail> {
+    (rank < space.len()).then_some(()).ok_or("no such patch")?;
+    let patch = space.patch(rank);
+    let loc = space
+        .all_locations()
+        .get(patch.loc as usize)
+        .ok_or("no such location")?;
+    Ok(splice(alloc, source, program, loc, &patch.edit)?)
 }
 
 /// The text of a comparison operator.

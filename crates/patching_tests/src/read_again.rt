@@ -4,7 +4,7 @@ use crate::build::{checked, text_with};
 use c_lex::lex;
 use c_parse::{ParseFault, parse};
 use c_tree::same_tree;
-use patch_space::{Space, apply, changed};
+use patch_space::{Space, apply};
 use std::alloc::Global;
 use std::process::Abort;
 use std::test::Fail;
@@ -60,8 +60,7 @@ fn expect_read_again(rt: &impl Abort, alloc: Global, source: &str) -> Result<(),
     let program = checked(alloc, source.as_bytes())?;
     let space = Space::build(alloc, &program, MOST)?;
     for rank in 0..space.len() {
-        let (loc, change) = changed(alloc, &program, &space, rank)?.ok_or("no change")?;
-        let text = text_with(alloc, source.as_bytes(), loc.at, &change)?;
+        let text = text_with(alloc, source.as_bytes(), &program, &space, rank)?;
         let read = checked(alloc, &text)?;
         let patched = apply(alloc, &program, &space, rank)?;
         assert!(rt;
@@ -119,8 +118,7 @@ fn expect_too_deep(
     // 5, then 3 and 6, 1, 12, 12 and 12.
     assert_eq!(rt; space.len(), 51);
     for rank in 0..space.len() {
-        let (loc, change) = changed(alloc, &program, &space, rank)?.ok_or("no change")?;
-        let text = text_with(alloc, &source, loc.at, &change)?;
+        let text = text_with(alloc, &source, &program, &space, rank)?;
         let cost = space.patch(rank).cost;
         assert_eq!(rt; is_too_deep(alloc, &text)?, costs.contains(&cost), "{rank}");
     }

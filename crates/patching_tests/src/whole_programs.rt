@@ -1,11 +1,10 @@
 //! Whole programs: how many patches they have, by cost and location, and the lines of some of them.
 
 use crate::build::checked;
-use c_location::Change;
-use c_tree::{Expr, NoMemory};
+use c_tree::NoMemory;
 use c_types::Typed;
-use patch_space::{Space, changed};
-use patch_text::{Form, edit_line};
+use patch_print::edit_line;
+use patch_space::Space;
 use std::alloc::Global;
 use std::process::Abort;
 use std::test::Fail;
@@ -222,16 +221,6 @@ fn patches_are_counted_by_cost_and_location(rt: HostRuntime) -> Result<(), Fail>
     Ok(())
 }
 
-/// The word of a change, and its expression.
-fn seen(change: &Change) -> (Form, &Expr) {
-    match change {
-        Change::Replaced(e) => (Form::Replace, e),
-        Change::Narrowed(e) => (Form::And, e),
-        Change::Widened(e) => (Form::Or, e),
-        Change::Guarded(e) => (Form::Guard, e),
-    }
-}
-
 /// Checks the line of the patch of that rank.
 fn expect_line(
     rt: &impl Abort,
@@ -242,16 +231,13 @@ fn expect_line(
 ) -> Result<(), Fail> {
     let program = checked(alloc, source)?;
     let space = Space::build(alloc, &program, 16_384)?;
-    (rank < space.len()).then_some(()).ok_or("no such patch")?;
-    let (loc, change) = changed(alloc, &program, &space, rank)?.ok_or("no change")?;
-    let (form, e) = seen(&change);
-    let line = edit_line(alloc, source, loc.at, space.patch(rank).cost, form, e)?;
+    let line = edit_line(alloc, source, &space, rank, &program)?;
     assert_eq!(rt; line.as_slice(), want.as_bytes(), "{want}");
     Ok(())
 }
 
-/// Programs with the rank of a patch, and its line.
-const LINES: [(&str, u32, &str); 16] = [
+/// Programs with the rank of a patch, and its line. Where there is no such patch it is empty.
+const LINES: [(&str, u32, &str); 17] = [
     (LESSER, 0, "6:9+5 cost 1 replace (a == b)\n"),
     (LESSER, 3, "6:9+5 cost 1 replace (a > b)\n"),
     (LESSER, 4, "6:9+5 cost 1 replace (a >= b)\n"),
@@ -284,6 +270,7 @@ const LINES: [(&str, u32, &str); 16] = [
     (PRODUCT, 7, "1:25+5 cost 2 replace (0 * 1)\n"),
     (PRODUCT, 12, "1:25+5 cost 3 replace (5)\n"),
     (FOREVER, 0, "1:22+1 cost 2 replace (0)\n"),
+    (FOREVER, 2, ""),
 ];
 
 #[test]
