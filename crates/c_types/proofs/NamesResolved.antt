@@ -29,6 +29,7 @@ use Rattle.c_types.specs.Constants.{constant_faults}
 use Rattle.c_types.specs.Evidence.{IsChecked}
 use Rattle.c_types.specs.Expressions.{void_faults, index_faults, place_faults, as_number, as_void, faults, args_faults}
 use Rattle.c_types.specs.Formats.{conversions, scan_conversions}
+use Rattle.c_types.specs.Found.{option_found, initial_found, variables_found, first_found, code_found, body_found, definition_found, outers_found}
 use Rattle.c_types.specs.Kinds.{kind, named}
 use Rattle.c_types.specs.Least.{fault, fault_if}
 use Rattle.c_types.specs.Library.{library}
@@ -37,7 +38,7 @@ use Rattle.c_types.specs.Scopes.{denoted, is_declared}
 use Rattle.c_types.specs.Slots.{first_count, code_count, slot_in, entity_slot, numbered_variable, numbered, numbered_param, numbered_params, resolved_tree, resolved_args, resolved_option, resolved_initial, resolved_variable, resolved_variables, numbered_first, resolved_first, resolved_code, resolved_body, resolved_definition, resolved_function, resolved_outers, resolved}
 use Rattle.c_types.specs.Statements.{variable_declaration, declared, length_faults, as_numbers, initial_faults, number_option, void_option, variable_faults, variables_faults, first_declared, first_faults, return_faults, code_faults, body_faults}
 use Rattle.c_types.specs.Unresolved.{unresolved, unresolved_function}
-use Rattle.c_types.specs.Uses.{Use, tree_uses, args_uses, option_uses, initial_uses, variables_uses, first_uses, code_uses, body_uses, definition_uses, outers_uses, uses, IsResolved}
+use Rattle.c_types.specs.Uses.{Use, tree_uses, args_uses, uses, IsResolved}
 use Rattle.c_types.proofs.Checked.{none_left, none_right, no_fault}
 use Rattle.c_types.proofs.Resolving.{program-kept, function-kept}
 use Rattle.c_types.proofs.SlotlessFaults.{function_declaration-same}
@@ -489,14 +490,14 @@ module _ (ds : List Declaration) where
     number-resolved : (own : Option (List ℕ)) (e : Tree) → as_number ds (resolved_tree ds e) ++ faults ds (resolved_tree ds e) ≡ [] → All IsResolved (tree_uses ds own (resolved_tree ds e))
     number-resolved own e h = let inner = number_parts e h in tree-resolved own e inner.0 inner.1
 
-    option_number-resolved : (o : Option Tree) → number_option ds (resolved_option ds o) ≡ [] → All IsResolved (option_uses ds (resolved_option ds o))
+    option_number-resolved : (o : Option Tree) → number_option ds (resolved_option ds o) ≡ [] → All IsResolved (option_found tree_uses ds (resolved_option ds o))
     option_number-resolved None h = All-nil IsResolved
     option_number-resolved (Some e) h = number-resolved None e h
 
     void-resolved : (e : Tree) → as_void ds (resolved_tree ds e) ++ faults ds (resolved_tree ds e) ≡ [] → All IsResolved (tree_uses ds None (resolved_tree ds e))
     void-resolved e h = let inner = void_parts e h in tree-resolved None e inner.0 inner.1
 
-    option_void-resolved : (o : Option Tree) → void_option ds (resolved_option ds o) ≡ [] → All IsResolved (option_uses ds (resolved_option ds o))
+    option_void-resolved : (o : Option Tree) → void_option ds (resolved_option ds o) ≡ [] → All IsResolved (option_found tree_uses ds (resolved_option ds o))
     option_void-resolved None h = All-nil IsResolved
     option_void-resolved (Some e) h = void-resolved e h
 
@@ -507,7 +508,7 @@ module _ (ds : List Declaration) where
         All-append IsResolved _ _ (number-resolved None e (none_left (as_number ds e' ++ faults ds e') _ h))
         (numbers-resolved es (none_right (as_number ds e' ++ faults ds e') _ h))
 
-    initial-resolved : (word : List ℕ) (start : Initial) → initial_faults ds (resolved_initial ds start) ≡ [] → All IsResolved (initial_uses ds word (resolved_initial ds start))
+    initial-resolved : (word : List ℕ) (start : Initial) → initial_faults ds (resolved_initial ds start) ≡ [] → All IsResolved (initial_found tree_uses ds word (resolved_initial ds start))
     initial-resolved word bare_start h = All-nil IsResolved
     initial-resolved word (one_start e) h = number-resolved (Some word) e h
     initial-resolved word (list_start es) h = numbers-resolved es h
@@ -519,7 +520,7 @@ declared-resolved here around ty (v ∷ vs) before = declared-resolved (variable
 
 variables-resolved : (storage at : Storage) (ty : Ty) (n : ℕ) (vs : List Variable) (here around : List Declaration) → HaveSlots here → HaveSlots around
     → variables_faults at here around ty (resolved_variables here around ty (numbered (slot_in storage) n vs)) ≡ []
-    → All IsResolved (variables_uses here around ty (resolved_variables here around ty (numbered (slot_in storage) n vs)))
+    → All IsResolved (variables_found tree_uses here around ty (resolved_variables here around ty (numbered (slot_in storage) n vs)))
 variables-resolved storage at ty n [] here around sh sa h = All-nil IsResolved
 variables-resolved storage at ty n (v ∷ vs) here around sh sa h =
     let w = numbered_variable (slot_in storage n) v in
@@ -533,7 +534,7 @@ variables-resolved storage at ty n (v ∷ vs) here around sh sa h =
     (variables-resolved storage at ty (suc n) vs (d ∷ here) around more sa (none_right (variable_faults at here around ty r) _ h))
 
 first-resolved : (ds : List Declaration) (n : ℕ) (f : First) → HaveSlots ds → first_faults ds (resolved_first ds (numbered_first n f)) ≡ []
-    → All IsResolved (first_uses ds (resolved_first ds (numbered_first n f)))
+    → All IsResolved (first_found tree_uses ds (resolved_first ds (numbered_first n f)))
 first-resolved ds n no_first slots h = All-nil IsResolved
 first-resolved ds n (first_act e) slots h = void-resolved ds slots e h
 first-resolved ds n (first_vars ty vs) slots h = variables-resolved Automatic Automatic ty n vs [] ds slots-nil slots h
@@ -545,7 +546,7 @@ first_declared-resolved ds (first_vars ty vs) = declared-resolved [] ds ty vs []
 
 module _ (ret : Option Ty) where
   mutual
-    code-resolved : (c : Code) (ds : List Declaration) (slots : HaveSlots ds) (n : ℕ) (in_loop : Bool) → code_faults ret ds in_loop (resolved_code ds n c) ≡ [] → All IsResolved (code_uses ds (resolved_code ds n c))
+    code-resolved : (c : Code) (ds : List Declaration) (slots : HaveSlots ds) (n : ℕ) (in_loop : Bool) → code_faults ret ds in_loop (resolved_code ds n c) ≡ [] → All IsResolved (code_found tree_uses ds (resolved_code ds n c))
     code-resolved (empty s) ds slots n in_loop h = All-nil IsResolved
     code-resolved (act e s) ds slots n in_loop h = void-resolved ds slots e h
     code-resolved (block body s) ds slots n in_loop h = body-resolved body [] ds slots-nil slots n in_loop h
@@ -584,7 +585,7 @@ module _ (ret : Option Ty) where
         ap (λ z. code_faults ret z true (resolved_code es k a)) (sym same)
         ∙ none_right (firsts ++ (number_option ds' (resolved_option es t) ++ void_option ds' (resolved_option es u))) _ h in
         All-append IsResolved _ _ (first-resolved ds n f slots (none_left firsts _ clauses))
-        (subst (λ (z : List Declaration). All IsResolved (option_uses z (resolved_option es t) ++ (option_uses z (resolved_option es u) ++ code_uses z (resolved_code es k a)))) (sym same)
+        (subst (λ (z : List Declaration). All IsResolved (option_found tree_uses z (resolved_option es t) ++ (option_found tree_uses z (resolved_option es u) ++ code_found tree_uses z (resolved_code es k a)))) (sym same)
         (All-append IsResolved _ _ (option_number-resolved es all t tests)
         (All-append IsResolved _ _ (option_void-resolved es all u steps) (code-resolved a es all k true arms))))
     code-resolved (give e s) ds slots n in_loop h = option_number-resolved ds slots e (none_right (return_faults ret (resolved_option ds e) s) _ h)
@@ -592,7 +593,7 @@ module _ (ret : Option Ty) where
     code-resolved (continue s) ds slots n in_loop h = All-nil IsResolved
 
     body-resolved : (b : Body) (here around : List Declaration) (sh : HaveSlots here) (sa : HaveSlots around) (n : ℕ) (in_loop : Bool)
-        → body_faults ret here around in_loop (resolved_body here around n b) ≡ [] → All IsResolved (body_uses here around (resolved_body here around n b))
+        → body_faults ret here around in_loop (resolved_body here around n b) ≡ [] → All IsResolved (body_found tree_uses here around (resolved_body here around n b))
     body-resolved done here around sh sa n in_loop h = All-nil IsResolved
     body-resolved (next c rest) here around sh sa n in_loop h =
         All-append IsResolved _ _ (code-resolved c (here ++ around) (slots-append here around sh sa) n in_loop (none_left _ _ h))
@@ -605,11 +606,11 @@ module _ (ret : Option Ty) where
         let inner : body_faults ret (declared ty ws here) around in_loop body ≡ [] =
         ap (λ z. body_faults ret z around in_loop body) (sym same) ∙ none_right (variables_faults Automatic here around ty rs) _ h in
         All-append IsResolved _ _ (variables-resolved Automatic Automatic ty n vs here around sh sa (none_left _ _ h))
-        (subst (λ (z : List Declaration). All IsResolved (body_uses z around body)) (sym same)
+        (subst (λ (z : List Declaration). All IsResolved (body_found tree_uses z around body)) (sym same)
         (body-resolved rest (declared ty ws here) around (slots-declared Automatic ty n vs here sh) sa (n + length vs) in_loop inner))
 
 definition-resolved : (ret : Option Ty) (b : Option Body) (here around : List Declaration) (sh : HaveSlots here) (sa : HaveSlots around) (n : ℕ)
-    → definition_faults ret here around (resolved_definition here around n b) ≡ [] → All IsResolved (definition_uses here around (resolved_definition here around n b))
+    → definition_faults ret here around (resolved_definition here around n b) ≡ [] → All IsResolved (definition_found tree_uses here around (resolved_definition here around n b))
 definition-resolved ret None here around sh sa n h = All-nil IsResolved
 definition-resolved ret (Some body) here around sh sa n h = body-resolved ret body here around sh sa n false h
 
@@ -624,7 +625,7 @@ slots-function : (file : List Outer) (f : Function) (here : List Declaration) �
 slots-function file f here h = slots-cons (function_declaration file f) here (no_function _ _ _ _) h
 
 outers-resolved : (file p : List Outer) (here : List Declaration) (n : ℕ) → HaveSlots here → outers_faults (resolved file) here (resolved_outers file here n p) ≡ []
-    → All IsResolved (outers_uses (resolved file) here (resolved_outers file here n p))
+    → All IsResolved (outers_found tree_uses (resolved file) here (resolved_outers file here n p))
 outers-resolved file [] here n slots h = All-nil IsResolved
 outers-resolved file (outer_vars ty vs ∷ rest) here n slots h =
     let ws = numbered (slot_in Static) n vs in
@@ -634,7 +635,7 @@ outers-resolved file (outer_vars ty vs ∷ rest) here n slots h =
     let inner : outers_faults (resolved file) (declared ty ws here) more ≡ [] =
     ap (λ z. outers_faults (resolved file) z more) (sym same) ∙ none_right (variables_faults Static here [] ty rs) _ h in
     All-append IsResolved _ _ (variables-resolved Static Static ty n vs here [] slots slots-nil (none_left _ _ h))
-    (subst (λ (z : List Declaration). All IsResolved (outers_uses (resolved file) z more)) (sym same)
+    (subst (λ (z : List Declaration). All IsResolved (outers_found tree_uses (resolved file) z more)) (sym same)
     (outers-resolved file rest (declared ty ws here) (n + length vs) (slots-declared Static ty n vs here slots) inner))
 outers-resolved file (outer_func f ∷ rest) here n slots h =
     let around = function_declaration file f ∷ here in
@@ -648,7 +649,7 @@ outers-resolved file (outer_func f ∷ rest) here n slots h =
     let bodies : definition_faults f.ret params around body ≡ [] = ap (λ z. definition_faults f.ret params z body) (sym same) ∙ own in
     let inner : outers_faults (resolved file) around more ≡ [] =
     ap (λ z. outers_faults (resolved file) z more) (sym same) ∙ none_right (function_faults (resolved file) here g) _ h in
-    subst (λ (z : List Declaration). All IsResolved (definition_uses params z body ++ outers_uses (resolved file) z more)) (sym same)
+    subst (λ (z : List Declaration). All IsResolved (definition_found tree_uses params z body ++ outers_found tree_uses (resolved file) z more)) (sym same)
     (All-append IsResolved _ _ (definition-resolved f.ret f.body params around (slots-params 0 f.params [] slots-nil) all (length f.params) bodies)
     (outers-resolved file rest around n all inner))
 

@@ -17,4 +17,5 @@ pub mod Evidence
 pub mod Alike
 pub mod Laws
 pub mod Reads
+pub mod Found
 pub mod Uses

@@ -7,13 +7,14 @@ use Rattle.c_tree.specs.Order as order
 use Rattle.c_tree.specs.Order.{TreeIn, ArgsIn, TreesIn, OptionIn, InitialIn, VariablesIn}
 use Rattle.c_tree.specs.Parts.{span_of}
 use Rattle.c_tree.specs.Tree.{Tree, constant, name, index, call, unary, cast, binary, choice, assign, bump, comma, hole, hole_after, Args, no_args, value, format, address, Initial, Variable}
+use Rattle.c_types.specs.Found.{option_found, initial_found, variables_found}
 use Rattle.c_types.specs.Statements.{variable_declaration}
-use Rattle.c_types.specs.Uses.{Use, tree_uses, args_uses, option_uses}
+use Rattle.c_types.specs.Uses.{Use, tree_uses, args_uses}
 use Rattle.c_location.specs.Locations.{Located}
 use Rattle.c_location.specs.OnePlace.{holes_in, holes_in_args, holes_in_initial, holes_in_variables}
 use Rattle.scope_laws.specs.Spots.{Spot, spot, tree_spots}
 use Rattle.scope_laws.proofs.Every.{Every, nil, cons, append, head, tail, left, right}
-use Rattle.run_laws.specs.Holes.{Names, tree_holes, args_holes, option_holes, initial_holes, variables_holes}
+use Rattle.run_laws.specs.Holes.{Names, tree_holes, args_holes, of_holes}
 
 -- ---- what holds of the spots, the locations and the names of a part
 
@@ -94,7 +95,7 @@ module _ (ds : Names) (o : Option (List ℕ)) where
     args_scope (address e x) = append (tree_scope e) (args_scope x)
 
 -- so are those in an expression that may be absent
-pub option_scope : (ds : Names) (e : Option Tree) → InScope ds None (option_uses ds e)
+pub option_scope : (ds : Names) (e : Option Tree) → InScope ds None (option_found tree_uses ds e)
 option_scope ds None = nil
 option_scope ds (Some e) = tree_scope ds None e
 
@@ -173,18 +174,18 @@ module _ (ds : Names) where
   closed_trees (order.none le) = closed
   closed_trees (order.more {e = e} {es = es} x rest) = summed_up (holes_in e) (map holes_in es) (together (closed_tree x) (closed_trees rest))
 
-  closed_initial : {from to : ℕ} {start : Initial} → InitialIn from to start → Closed (initial_holes ds start) (holes_in_initial start)
-  closed_initial (order.bare le) = closed
-  closed_initial (order.one x) = closed_tree x
-  closed_initial (order.many xs) = closed_trees xs
+  closed_initial : {from to : ℕ} {start : Initial} (word : List ℕ) → InitialIn from to start → Closed (initial_found of_holes ds word start) (holes_in_initial start)
+  closed_initial word (order.bare le) = closed
+  closed_initial word (order.one x) = closed_tree x
+  closed_initial word (order.many xs) = closed_trees xs
 
   -- an expression that may be absent has none either
-  pub closed_option : {from to : ℕ} {e : Option Tree} → OptionIn from to e → option_holes ds e ≡ []
+  pub closed_option : {from to : ℕ} {e : Option Tree} → OptionIn from to e → option_found of_holes ds e ≡ []
   closed_option (order.absent le) = refl
   closed_option (order.present x) = (closed_tree x).nothing
 
-pub closed_variables : {from to : ℕ} {vs : List Variable} (here around : Names) (ty : Ty) → VariablesIn from to vs → Closed (variables_holes here around ty vs) (holes_in_variables vs)
+pub closed_variables : {from to : ℕ} {vs : List Variable} (here around : Names) (ty : Ty) → VariablesIn from to vs → Closed (variables_found of_holes here around ty vs) (holes_in_variables vs)
 closed_variables here around ty (order.none le) = closed
 closed_variables here around ty (order.more {v = v} {vs = vs} w start rest) =
     summed_up (holes_in_initial v.start) (map (λ (u : Variable). holes_in_initial u.start) vs)
-    (together (closed_initial (variable_declaration ty v ∷ (here ++ around)) start) (closed_variables (variable_declaration ty v ∷ here) around ty rest))
+    (together (closed_initial (variable_declaration ty v ∷ (here ++ around)) v.word start) (closed_variables (variable_declaration ty v ∷ here) around ty rest))

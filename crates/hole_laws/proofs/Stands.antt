@@ -10,6 +10,7 @@ use Rattle.c_tree.specs.declared.place.Span.{Span}
 use Rattle.c_tree.specs.Parts.{span_of, span_of_code}
 use Rattle.c_tree.specs.Tree.{Tree, hole, hole_after, is_pure, Code, Function, Outer}
 use Rattle.c_types.specs.Evidence.{IsOrdered}
+use Rattle.c_types.specs.Found.{code_found}
 use Rattle.c_types.specs.Library.{library}
 use Rattle.c_types.specs.Programs.{function_declaration}
 use Rattle.c_types.specs.Uses.{Use, uses}
@@ -25,7 +26,7 @@ use Rattle.rewrite_laws.proofs.ThereFaults.{function_declaration-kept}
 use Rattle.scope_laws.specs.Laws.{ScopesAgree, SeesScope}
 use Rattle.scope_laws.specs.Spots.{Spot, spot, spots}
 use Rattle.scope_laws.proofs.Every.{Every, nil, cons, head, tail, weaker}
-use Rattle.run_laws.specs.Holes.{Names, tree_holes, code_holes, holes}
+use Rattle.run_laws.specs.Holes.{Names, tree_holes, holes, of_holes}
 use Rattle.hole_laws.specs.Laws.{HolesStand}
 use Rattle.hole_laws.specs.Places.{StandsIn}
 use Rattle.hole_laws.proofs.Fits.{hole_fits}
@@ -101,10 +102,10 @@ module _ (p : List Outer) (l : Loc) where
   opened_tree ds Right e of none h = single ds h
 
   -- a statement there has it in an `if` round it
-  opened_code : (ds : Names) (kind : LocKind) (c : Code) → Guard ≡ kind → code_holes ds c ≡ [] → H ds
-      → Counted H (code_holes ds ((hole_of kind).code c)) 1
+  opened_code : (ds : Names) (kind : LocKind) (c : Code) → Guard ≡ kind → code_found of_holes ds c ≡ [] → H ds
+      → Counted H (code_found of_holes ds ((hole_of kind).code c)) 1
   opened_code ds kind c is none h =
-      subst (λ (k : LocKind). Counted H (code_holes ds ((hole_of k).code c)) 1) is
+      subst (λ (k : LocKind). Counted H (code_found of_holes ds ((hole_of k).code c)) 1) is
       (subst (λ (xs : List Names). Counted H ((ds ∷ xs) ++ []) 1) (sym none) (single ds h))
 
   opens : Opens l (hole_of l.kind) R P Q H

@@ -3,7 +3,8 @@
 use Rattle.std.specs.Prelude.{◌≡◌, ℕ, List, [], ◌∷◌, All, Contains, Option, Some}
 use Rattle.c_tree.specs.declared.place.Loc.{Loc}
 use Rattle.c_tree.specs.Tree.{Outer}
-use Rattle.c_types.specs.Uses.{Use, tree_uses, code_uses, uses}
+use Rattle.c_types.specs.Found.{code_found}
+use Rattle.c_types.specs.Uses.{Use, tree_uses, uses}
 use Rattle.c_location.specs.Locations.{Part, expression, statement, part_at}
 use Rattle.c_meaning.specs.Filled.{holed}
 use Rattle.scope_laws.specs.Laws.{Sees}
@@ -13,7 +14,7 @@ use Rattle.run_laws.specs.Holes.{Names, holes}
 -- the names in what stands at a location, where these declarations are in scope
 abbrev pub part_uses : Names → Option (List ℕ) → Part → List Use
 part_uses ds initialised (expression e) = tree_uses ds initialised e
-part_uses ds initialised (statement c) = code_uses ds c
+part_uses ds initialised (statement c) = code_found tree_uses ds c
 
 -- A location is a place of a program where these declarations are in scope: its text is that of an
 -- expression or a statement there, and the names in that are names of the program in that scope. In

@@ -22,6 +22,7 @@ use Rattle.c_types.specs.declared.scope.Storage.TheVariants.{Static, Automatic}
 use Rattle.c_types.specs.Arguments.{number_faults, converted, wanted, value_faults, format_faults, is_place, stores_int, operand_faults, address_faults, call_faults}
 use Rattle.c_types.specs.Constants.{not_constant, not_constant_all, not_constant_initial}
 use Rattle.c_types.specs.Expressions.{void_faults, index_faults, place_faults, as_number, as_void, faults, args_faults}
+use Rattle.c_types.specs.Found.{option_found, initial_found, variables_found, first_found, code_found, body_found, definition_found}
 use Rattle.c_types.specs.Kinds.{kind, named, called}
 use Rattle.c_types.specs.Least.{fault_if}
 use Rattle.c_types.specs.Programs.{definition_faults}
@@ -30,7 +31,7 @@ use Rattle.c_types.specs.Slots.{first_count, code_count, slot_in, numbered_varia
 use Rattle.c_types.specs.Statements.{variable_declaration, declared, length_faults, as_numbers, initial_faults, number_option, void_option, variable_faults, variables_faults, first_declared, first_faults, return_faults, code_faults, body_faults}
 use Rattle.c_types.proofs.Checked.{none_left, none_right, no_fault}
 use Rattle.c_meaning.specs.Meaning.{definition, params_of, rest_of}
-use Rattle.run_laws.specs.Holes.{Names, tree_holes, args_holes, option_holes, initial_holes, variables_holes, first_holes, code_holes, body_holes, definition_holes}
+use Rattle.run_laws.specs.Holes.{Names, tree_holes, args_holes, of_holes}
 use Rattle.run_laws.specs.Reads.{GivesValue}
 use Rattle.run_laws.specs.Bodies.{HoldsList}
 use Rattle.run_laws.specs.Passing.{IsArrayName}
@@ -238,11 +239,11 @@ module _ (program : List Outer) (scopes : List Names) (there : Type 0) (ds : Nam
   pub number_well : (e : Tree) → as_number ds (resolved_tree ds e) ++ faults ds (resolved_tree ds e) ≡ [] → Known (tree_holes ds (resolved_tree ds e)) → Well program scopes there ⊤ ds true e
   number_well e h g = tree_well true e (λ sure. number_kind e h) (number_part e h) g
 
-  number_option_well : (o : Option Tree) → number_option ds (resolved_option ds o) ≡ [] → Known (option_holes ds (resolved_option ds o)) → WellOption program scopes there ⊤ ds true o
+  number_option_well : (o : Option Tree) → number_option ds (resolved_option ds o) ≡ [] → Known (option_found of_holes ds (resolved_option ds o)) → WellOption program scopes there ⊤ ds true o
   number_option_well None h g = tt
   number_option_well (Some e) h g = tree_well true e (λ sure. number_kind e h) (number_part e h) g
 
-  void_option_well : (o : Option Tree) → void_option ds (resolved_option ds o) ≡ [] → Known (option_holes ds (resolved_option ds o)) → WellOption program scopes there ⊤ ds false o
+  void_option_well : (o : Option Tree) → void_option ds (resolved_option ds o) ≡ [] → Known (option_found of_holes ds (resolved_option ds o)) → WellOption program scopes there ⊤ ds false o
   void_option_well None h g = tt
   void_option_well (Some e) h g = tree_well false e (λ sure. void_kind e h) (void_part e h) g
 
@@ -254,10 +255,10 @@ module _ (program : List Outer) (scopes : List Names) (there : Type 0) (ds : Nam
         list_well es (none_right (as_number ds e' ++ faults ds e') _ h) (All-right (Contains scopes) (tree_holes ds e') _ g),
       )
 
-  initial_well : (start : Initial) → initial_faults ds (resolved_initial ds start) ≡ [] → Known (initial_holes ds (resolved_initial ds start)) → WellInitial program scopes there ⊤ ds start
-  initial_well bare_start h g = tt
-  initial_well (one_start e) h g = tree_well true e (λ sure. number_kind e h) (number_part e h) g
-  initial_well (list_start es) h g = list_well es h g
+  initial_well : (word : List ℕ) (start : Initial) → initial_faults ds (resolved_initial ds start) ≡ [] → Known (initial_found of_holes ds word (resolved_initial ds start)) → WellInitial program scopes there ⊤ ds start
+  initial_well word bare_start h g = tt
+  initial_well word (one_start e) h g = tree_well true e (λ sure. number_kind e h) (number_part e h) g
+  initial_well word (list_start es) h g = list_well es h g
 
 -- ---- constant initialisers
 
@@ -288,10 +289,10 @@ module _ (program : List Outer) (scopes : List Names) (ds : Names) where
   constants_well (e ∷ es) h g =
       (constant_well e (none_left _ _ h) (All-left (Contains scopes) _ _ g), constants_well es (none_right (not_constant (resolved_tree ds e)) _ h) (All-right (Contains scopes) (tree_holes ds (resolved_tree ds e)) _ g))
 
-  constant_initial_well : (start : Initial) → not_constant_initial (resolved_initial ds start) ≡ [] → All (Contains scopes) (initial_holes ds (resolved_initial ds start)) → WellInitial program scopes ⊤ ⊥ ds start
-  constant_initial_well bare_start h g = tt
-  constant_initial_well (one_start e) h g = constant_well e h g
-  constant_initial_well (list_start es) h g = constants_well es h g
+  constant_initial_well : (word : List ℕ) (start : Initial) → not_constant_initial (resolved_initial ds start) ≡ [] → All (Contains scopes) (initial_found of_holes ds word (resolved_initial ds start)) → WellInitial program scopes ⊤ ⊥ ds start
+  constant_initial_well word bare_start h g = tt
+  constant_initial_well word (one_start e) h g = constant_well e h g
+  constant_initial_well word (list_start es) h g = constants_well es h g
 
 -- ---- declarations and statements
 
@@ -326,7 +327,7 @@ first_declared-resolved ds (first_act e) = refl
 first_declared-resolved ds (first_vars ty vs) = declared-resolved [] ds ty vs []
 
 pub globals_well : (program : List Outer) (scopes : List Names) (ty : Ty) (n : ℕ) (vs : List Variable) (here around : List Declaration)
-    → variables_faults Static here around ty (resolved_variables here around ty (numbered (slot_in Static) n vs)) ≡ [] → All (Contains scopes) (variables_holes here around ty (resolved_variables here around ty (numbered (slot_in Static) n vs)))
+    → variables_faults Static here around ty (resolved_variables here around ty (numbered (slot_in Static) n vs)) ≡ [] → All (Contains scopes) (variables_found of_holes here around ty (resolved_variables here around ty (numbered (slot_in Static) n vs)))
     → WellVariables program scopes ⊤ ⊥ Static here around n ty vs
 globals_well program scopes ty n [] here around h g = tt
 globals_well program scopes ty n (v ∷ vs) here around h g =
@@ -335,8 +336,8 @@ globals_well program scopes ty n (v ∷ vs) here around h g =
     let r = resolved_variable here around ty w in
     let own = none_left (variable_faults Static here around ty r) _ h in
     let starts = none_right (initial_faults (d ∷ (here ++ around)) r.start) _ (none_right (length_faults r.shape r.start r.span) _ (none_right (fault_if (is_declared here r.word) Twice r.span) _ own)) in (
-      constant_initial_well program scopes (d ∷ (here ++ around)) v.start starts (All-left (Contains scopes) _ _ g),
-      globals_well program scopes ty (suc n) vs (d ∷ here) around (none_right (variable_faults Static here around ty r) _ h) (All-right (Contains scopes) (initial_holes (d ∷ (here ++ around)) r.start) _ g),
+      constant_initial_well program scopes (d ∷ (here ++ around)) v.word v.start starts (All-left (Contains scopes) _ _ g),
+      globals_well program scopes ty (suc n) vs (d ∷ here) around (none_right (variable_faults Static here around ty r) _ h) (All-right (Contains scopes) (initial_found of_holes (d ∷ (here ++ around)) r.word r.start) _ g),
       holds_list r.shape r.start r.span (none_left _ _ (none_right (fault_if (is_declared here r.word) Twice r.span) _ own)),
     )
 
@@ -358,7 +359,7 @@ module _ (program : List Outer) (scopes : List Names) (there : Type 0) where
   agree_first n (first_vars ty vs) ds h = agree_declared Automatic ty n vs [] ds h
 
   variables_well : (ty : Ty) (n : ℕ) (vs : List Variable) (here around : List Declaration) → AllStand program there (here ++ around)
-      → variables_faults Automatic here around ty (resolved_variables here around ty (numbered (slot_in Automatic) n vs)) ≡ [] → Held (variables_holes here around ty (resolved_variables here around ty (numbered (slot_in Automatic) n vs)))
+      → variables_faults Automatic here around ty (resolved_variables here around ty (numbered (slot_in Automatic) n vs)) ≡ [] → Held (variables_found of_holes here around ty (resolved_variables here around ty (numbered (slot_in Automatic) n vs)))
       → WellVariables program scopes there ⊤ Automatic here around n ty vs
   variables_well ty n [] here around agree h g = tt
   variables_well ty n (v ∷ vs) here around agree h g =
@@ -368,19 +369,19 @@ module _ (program : List Outer) (scopes : List Names) (there : Type 0) where
       let more : AllStand program there (d ∷ (here ++ around)) = agree_variable (slot_in Automatic n) ty v (here ++ around) agree in
       let own = none_left (variable_faults Automatic here around ty r) _ h in
       let starts = none_left (initial_faults (d ∷ (here ++ around)) r.start) _ (none_right (length_faults r.shape r.start r.span) _ (none_right (fault_if (is_declared here r.word) Twice r.span) _ own)) in (
-        initial_well program scopes there (d ∷ (here ++ around)) more v.start starts (All-left (Contains scopes) _ _ g),
-        variables_well ty (suc n) vs (d ∷ here) around more (none_right (variable_faults Automatic here around ty r) _ h) (All-right (Contains scopes) (initial_holes (d ∷ (here ++ around)) r.start) _ g),
+        initial_well program scopes there (d ∷ (here ++ around)) more v.word v.start starts (All-left (Contains scopes) _ _ g),
+        variables_well ty (suc n) vs (d ∷ here) around more (none_right (variable_faults Automatic here around ty r) _ h) (All-right (Contains scopes) (initial_found of_holes (d ∷ (here ++ around)) r.word r.start) _ g),
         holds_list r.shape r.start r.span (none_left _ _ (none_right (fault_if (is_declared here r.word) Twice r.span) _ own)),
       )
 
-  first_well : (ds : List Declaration) (n : ℕ) (f : First) → AllStand program there ds → first_faults ds (resolved_first ds (numbered_first n f)) ≡ [] → Held (first_holes ds (resolved_first ds (numbered_first n f))) → WellFirst program scopes there ⊤ ds n f
+  first_well : (ds : List Declaration) (n : ℕ) (f : First) → AllStand program there ds → first_faults ds (resolved_first ds (numbered_first n f)) ≡ [] → Held (first_found of_holes ds (resolved_first ds (numbered_first n f))) → WellFirst program scopes there ⊤ ds n f
   first_well ds n no_first agree h g = tt
   first_well ds n (first_act e) agree h g = tree_well program scopes there ds agree false e (λ sure. none_left _ _ h) (none_right (as_void ds (resolved_tree ds e)) _ h) g
   first_well ds n (first_vars ty vs) agree h g = variables_well ty n vs [] ds agree h g
 
   module _ (ret : Option Ty) where
     mutual
-      pub code_well : (c : Code) (ds : List Declaration) (agree : AllStand program there ds) (n : ℕ) (in_loop : Bool) → code_faults ret ds in_loop (resolved_code ds n c) ≡ [] → Held (code_holes ds (resolved_code ds n c)) → WellCode program scopes there ⊤ ds n c
+      pub code_well : (c : Code) (ds : List Declaration) (agree : AllStand program there ds) (n : ℕ) (in_loop : Bool) → code_faults ret ds in_loop (resolved_code ds n c) ≡ [] → Held (code_found of_holes ds (resolved_code ds n c)) → WellCode program scopes there ⊤ ds n c
       code_well (empty s) ds agree n in_loop h g = tt
       code_well (act e s) ds agree n in_loop h g = tree_well program scopes there ds agree false e (λ sure. none_left _ _ h) (none_right (as_void ds (resolved_tree ds e)) _ h) g
       code_well (block body s) ds agree n in_loop h g = body_well body [] ds agree n in_loop h g
@@ -396,7 +397,7 @@ module _ (program : List Outer) (scopes : List Names) (there : Type 0) where
             number_well program scopes there ds agree t (none_left (as_number ds t' ++ faults ds t') _ h) (All-left (Contains scopes) _ _ g),
             (
               code_well a ds agree n in_loop (none_left _ _ rest) (All-left (Contains scopes) _ _ more),
-              code_well b ds agree (n + code_count a) in_loop (none_right (code_faults ret ds in_loop (resolved_code ds n a)) _ rest) (All-right (Contains scopes) (code_holes ds (resolved_code ds n a)) _ more),
+              code_well b ds agree (n + code_count a) in_loop (none_right (code_faults ret ds in_loop (resolved_code ds n a)) _ rest) (All-right (Contains scopes) (code_found of_holes ds (resolved_code ds n a)) _ more),
             ),
           )
       code_well (while t a s) ds agree n in_loop h g =
@@ -407,7 +408,7 @@ module _ (program : List Outer) (scopes : List Names) (there : Type 0) where
       code_well (do_while a t s) ds agree n in_loop h g =
           let t' = resolved_tree ds t in (
             code_well a ds agree n true (none_left _ _ h) (All-left (Contains scopes) _ _ g),
-            number_well program scopes there ds agree t (none_right (code_faults ret ds true (resolved_code ds n a)) _ h) (All-right (Contains scopes) (code_holes ds (resolved_code ds n a)) _ g),
+            number_well program scopes there ds agree t (none_right (code_faults ret ds true (resolved_code ds n a)) _ h) (All-right (Contains scopes) (code_found of_holes ds (resolved_code ds n a)) _ g),
           )
       code_well (for f t u a s) ds agree n in_loop h g =
           let i = numbered_first n f in
@@ -425,16 +426,16 @@ module _ (program : List Outer) (scopes : List Names) (there : Type 0) where
           let arms : code_faults ret es true (resolved_code es k a) ≡ [] =
           ap (λ z. code_faults ret z true (resolved_code es k a)) (sym same)
           ∙ none_right (firsts ++ (number_option ds' (resolved_option es t) ++ void_option ds' (resolved_option es u))) _ h in
-          let held : Held (option_holes es (resolved_option es t) ++ (option_holes es (resolved_option es u) ++ code_holes es (resolved_code es k a))) =
-          subst (λ (z : List Declaration). Held (option_holes z (resolved_option es t) ++ (option_holes z (resolved_option es u) ++ code_holes z (resolved_code es k a)))) same
-          (All-right (Contains scopes) (first_holes ds (resolved_first ds i)) _ g) in
-          let more = All-right (Contains scopes) (option_holes es (resolved_option es t)) _ held in (
+          let held : Held (option_found of_holes es (resolved_option es t) ++ (option_found of_holes es (resolved_option es u) ++ code_found of_holes es (resolved_code es k a))) =
+          subst (λ (z : List Declaration). Held (option_found of_holes z (resolved_option es t) ++ (option_found of_holes z (resolved_option es u) ++ code_found of_holes z (resolved_code es k a)))) same
+          (All-right (Contains scopes) (first_found of_holes ds (resolved_first ds i)) _ g) in
+          let more = All-right (Contains scopes) (option_found of_holes es (resolved_option es t)) _ held in (
             first_well ds n f agree (none_left firsts _ clauses) (All-left (Contains scopes) _ _ g),
             (
               number_option_well program scopes there es all t tests (All-left (Contains scopes) _ _ held),
               (
                 void_option_well program scopes there es all u steps (All-left (Contains scopes) _ _ more),
-                code_well a es all k true arms (All-right (Contains scopes) (option_holes es (resolved_option es u)) _ more),
+                code_well a es all k true arms (All-right (Contains scopes) (option_found of_holes es (resolved_option es u)) _ more),
               ),
             ),
           )
@@ -443,12 +444,12 @@ module _ (program : List Outer) (scopes : List Names) (there : Type 0) where
       code_well (continue s) ds agree n in_loop h g = tt
 
       body_well : (b : Body) (here around : List Declaration) (agree : AllStand program there (here ++ around)) (n : ℕ) (in_loop : Bool)
-          → body_faults ret here around in_loop (resolved_body here around n b) ≡ [] → Held (body_holes here around (resolved_body here around n b)) → WellBody program scopes there ⊤ here around n b
+          → body_faults ret here around in_loop (resolved_body here around n b) ≡ [] → Held (body_found of_holes here around (resolved_body here around n b)) → WellBody program scopes there ⊤ here around n b
       body_well done here around agree n in_loop h g = tt
       body_well (next c rest) here around agree n in_loop h g = (
         code_well c (here ++ around) agree n in_loop (none_left _ _ h) (All-left (Contains scopes) _ _ g),
         body_well rest here around agree (n + code_count c) in_loop (none_right (code_faults ret (here ++ around) in_loop (resolved_code (here ++ around) n c)) _ h)
-            (All-right (Contains scopes) (code_holes (here ++ around) (resolved_code (here ++ around) n c)) _ g),
+            (All-right (Contains scopes) (code_found of_holes (here ++ around) (resolved_code (here ++ around) n c)) _ g),
       )
       body_well (vars ty vs rest) here around agree n in_loop h g =
           let ws = numbered (slot_in Automatic) n vs in
@@ -457,12 +458,12 @@ module _ (program : List Outer) (scopes : List Names) (there : Type 0) where
           let body = resolved_body (declared ty ws here) around (n + length vs) rest in
           let inner : body_faults ret (declared ty ws here) around in_loop body ≡ [] =
           ap (λ z. body_faults ret z around in_loop body) (sym same) ∙ none_right (variables_faults Automatic here around ty rs) _ h in
-          let held : Held (body_holes (declared ty ws here) around body) = subst (λ (z : List Declaration). Held (body_holes z around body)) same (All-right (Contains scopes) (variables_holes here around ty rs) _ g) in (
+          let held : Held (body_found of_holes (declared ty ws here) around body) = subst (λ (z : List Declaration). Held (body_found of_holes z around body)) same (All-right (Contains scopes) (variables_found of_holes here around ty rs) _ g) in (
             variables_well ty n vs here around agree (none_left _ _ h) (All-left (Contains scopes) _ _ g),
             body_well rest (declared ty ws here) around (agree_declared Automatic ty n vs here around agree) (n + length vs) in_loop inner held,
           )
 
   pub definition_well : (ret : Option Ty) (b : Option Body) (here around : List Declaration) (agree : AllStand program there (here ++ around)) (n : ℕ)
-      → definition_faults ret here around (resolved_definition here around n b) ≡ [] → Held (definition_holes here around (resolved_definition here around n b)) → WellDefinition program scopes there ⊤ here around n b
+      → definition_faults ret here around (resolved_definition here around n b) ≡ [] → Held (definition_found of_holes here around (resolved_definition here around n b)) → WellDefinition program scopes there ⊤ here around n b
   definition_well ret None here around agree n h g = tt
   definition_well ret (Some body) here around agree n h g = body_well ret body here around agree n false h g

@@ -6,6 +6,7 @@ use Rattle.std.proofs.lemmas.List.Elements.{All-nil, All-contains}
 use Rattle.c_tree.specs.declared.stmt.Ty.{Ty}
 use Rattle.c_tree.specs.Order.{TreeIn, ArgsIn, TreesIn, OptionIn, InitialIn, VariablesIn, FirstIn, CodeIn, BodyIn, DefinitionIn, OuterIn, ProgramIn}
 use Rattle.c_tree.specs.Tree.{Tree, Args, Initial, Variable, First, Code, Body, Outer}
+use Rattle.c_types.specs.Found.{option_found, initial_found, variables_found, first_found, code_found, body_found, definition_found, outers_found}
 use Rattle.c_types.specs.Library.{library}
 use Rattle.c_types.specs.Programs.{params_declared, function_declaration}
 use Rattle.c_types.specs.Statements.{variable_declaration, declared, first_declared}
@@ -14,7 +15,7 @@ use Rattle.c_meaning.specs.Steps.{unit, load, store, make, attach, object_of, cu
 use Rattle.c_meaning.specs.Meaning.{Filling, looping, run_program}
 use Rattle.c_meaning.proofs.Related.{Kept, program_related}
 use Rattle.run_laws.specs.Typed.{every_slot, IsSteady}
-use Rattle.run_laws.specs.Holes.{Names, tree_holes, args_holes, option_holes, initial_holes, variables_holes, first_holes, code_holes, body_holes, definition_holes, outers_holes, holes}
+use Rattle.run_laws.specs.Holes.{Names, tree_holes, args_holes, holes, of_holes}
 use Rattle.run_laws.specs.Laws.{OrderedProgramsHaveNoHole, NoHoleIsMet}
 use Rattle.run_laws.proofs.Keeping.{keeps_refl}
 use Rattle.run_laws.proofs.Programs.{holes-typed}
@@ -49,62 +50,62 @@ trees_none : {i j : ℕ} {es : List Tree} (ds : Names) → TreesIn i j es → fl
 trees_none ds (TreesIn.none le) = refl
 trees_none ds (TreesIn.more {e = e} {es = es} x y) = both (tree_holes ds e) (flat_map (tree_holes ds) es) (tree_none ds x) (trees_none ds y)
 
-option_none : {i j : ℕ} {o : Option Tree} (ds : Names) → OptionIn i j o → option_holes ds o ≡ []
+option_none : {i j : ℕ} {o : Option Tree} (ds : Names) → OptionIn i j o → option_found of_holes ds o ≡ []
 option_none ds (OptionIn.absent le) = refl
 option_none ds (OptionIn.present x) = tree_none ds x
 
-initial_none : {i j : ℕ} {start : Initial} (ds : Names) → InitialIn i j start → initial_holes ds start ≡ []
-initial_none ds (InitialIn.bare le) = refl
-initial_none ds (InitialIn.one x) = tree_none ds x
-initial_none ds (InitialIn.many x) = trees_none ds x
+initial_none : {i j : ℕ} {start : Initial} (ds : Names) (word : List ℕ) → InitialIn i j start → initial_found of_holes ds word start ≡ []
+initial_none ds word (InitialIn.bare le) = refl
+initial_none ds word (InitialIn.one x) = tree_none ds x
+initial_none ds word (InitialIn.many x) = trees_none ds x
 
-variables_none : {i j : ℕ} {vs : List Variable} (here around : Names) (ty : Ty) → VariablesIn i j vs → variables_holes here around ty vs ≡ []
+variables_none : {i j : ℕ} {vs : List Variable} (here around : Names) (ty : Ty) → VariablesIn i j vs → variables_found of_holes here around ty vs ≡ []
 variables_none here around ty (VariablesIn.none le) = refl
 variables_none here around ty (VariablesIn.more {v = v} {vs = vs} w x y) =
     let d = variable_declaration ty v in
-    both (initial_holes (d ∷ (here ++ around)) v.start) (variables_holes (d ∷ here) around ty vs) (initial_none (d ∷ (here ++ around)) x) (variables_none (d ∷ here) around ty y)
+    both (initial_found of_holes (d ∷ (here ++ around)) v.word v.start) (variables_found of_holes (d ∷ here) around ty vs) (initial_none (d ∷ (here ++ around)) v.word x) (variables_none (d ∷ here) around ty y)
 
-first_none : {i j : ℕ} {first : First} (ds : Names) → FirstIn i j first → first_holes ds first ≡ []
+first_none : {i j : ℕ} {first : First} (ds : Names) → FirstIn i j first → first_found of_holes ds first ≡ []
 first_none ds (FirstIn.none le) = refl
 first_none ds (FirstIn.act x) = tree_none ds x
 first_none ds (FirstIn.vars {ty = ty} x) = variables_none [] ds ty x
 
 mutual
-  code_none : {i j : ℕ} {c : Code} (ds : Names) → CodeIn i j c → code_holes ds c ≡ []
+  code_none : {i j : ℕ} {c : Code} (ds : Names) → CodeIn i j c → code_found of_holes ds c ≡ []
   code_none ds (CodeIn.empty w) = refl
   code_none ds (CodeIn.act w x) = tree_none ds x
   code_none ds (CodeIn.block w x) = body_none [] ds x
-  code_none ds (CodeIn.if_then {t = t} {a = a} w x y) = both (tree_holes ds t) (code_holes ds a) (tree_none ds x) (code_none ds y)
+  code_none ds (CodeIn.if_then {t = t} {a = a} w x y) = both (tree_holes ds t) (code_found of_holes ds a) (tree_none ds x) (code_none ds y)
   code_none ds (CodeIn.if_else {t = t} {a = a} {b = b} w x y z) =
-      both (tree_holes ds t) (code_holes ds a ++ code_holes ds b) (tree_none ds x) (both (code_holes ds a) (code_holes ds b) (code_none ds y) (code_none ds z))
-  code_none ds (CodeIn.while {t = t} {a = a} w x y) = both (tree_holes ds t) (code_holes ds a) (tree_none ds x) (code_none ds y)
-  code_none ds (CodeIn.do_while {a = a} {t = t} w y x) = both (code_holes ds a) (tree_holes ds t) (code_none ds y) (tree_none ds x)
+      both (tree_holes ds t) (code_found of_holes ds a ++ code_found of_holes ds b) (tree_none ds x) (both (code_found of_holes ds a) (code_found of_holes ds b) (code_none ds y) (code_none ds z))
+  code_none ds (CodeIn.while {t = t} {a = a} w x y) = both (tree_holes ds t) (code_found of_holes ds a) (tree_none ds x) (code_none ds y)
+  code_none ds (CodeIn.do_while {a = a} {t = t} w y x) = both (code_found of_holes ds a) (tree_holes ds t) (code_none ds y) (tree_none ds x)
   code_none ds (CodeIn.for {i = first} {t = t} {u = u} {a = a} w f x y z) =
       let es = first_declared first ++ ds in
-      both (first_holes ds first) (option_holes es t ++ (option_holes es u ++ code_holes es a)) (first_none ds f)
-      (both (option_holes es t) (option_holes es u ++ code_holes es a) (option_none es x) (both (option_holes es u) (code_holes es a) (option_none es y) (code_none es z)))
+      both (first_found of_holes ds first) (option_found of_holes es t ++ (option_found of_holes es u ++ code_found of_holes es a)) (first_none ds f)
+      (both (option_found of_holes es t) (option_found of_holes es u ++ code_found of_holes es a) (option_none es x) (both (option_found of_holes es u) (code_found of_holes es a) (option_none es y) (code_none es z)))
   code_none ds (CodeIn.give w x) = option_none ds x
   code_none ds (CodeIn.break w) = refl
   code_none ds (CodeIn.continue w) = refl
 
-  body_none : {i j : ℕ} {b : Body} (here around : Names) → BodyIn i j b → body_holes here around b ≡ []
+  body_none : {i j : ℕ} {b : Body} (here around : Names) → BodyIn i j b → body_found of_holes here around b ≡ []
   body_none here around (BodyIn.done le) = refl
   body_none here around (BodyIn.next {a = a} {rest = rest} x y) =
-      both (code_holes (here ++ around) a) (body_holes here around rest) (code_none (here ++ around) x) (body_none here around y)
+      both (code_found of_holes (here ++ around) a) (body_found of_holes here around rest) (code_none (here ++ around) x) (body_none here around y)
   body_none here around (BodyIn.vars {ty = ty} {vs = vs} {rest = rest} x y) =
-      both (variables_holes here around ty vs) (body_holes (declared ty vs here) around rest) (variables_none here around ty x) (body_none (declared ty vs here) around y)
+      both (variables_found of_holes here around ty vs) (body_found of_holes (declared ty vs here) around rest) (variables_none here around ty x) (body_none (declared ty vs here) around y)
 
-definition_none : {i j : ℕ} {b : Option Body} (here around : Names) → DefinitionIn i j b → definition_holes here around b ≡ []
+definition_none : {i j : ℕ} {b : Option Body} (here around : Names) → DefinitionIn i j b → definition_found of_holes here around b ≡ []
 definition_none here around (DefinitionIn.absent le) = refl
 definition_none here around (DefinitionIn.present x) = body_none here around x
 
-program_none : {i j : ℕ} {p : List Outer} (file : List Outer) (here : Names) → ProgramIn i j p → outers_holes file here p ≡ []
+program_none : {i j : ℕ} {p : List Outer} (file : List Outer) (here : Names) → ProgramIn i j p → outers_found of_holes file here p ≡ []
 program_none file here (ProgramIn.none le) = refl
 program_none file here (ProgramIn.more {p = p} (OuterIn.vars {ty = ty} {vs = vs} x) y) =
-    both (variables_holes here [] ty vs) (outers_holes file (declared ty vs here) p) (variables_none here [] ty x) (program_none file (declared ty vs here) y)
+    both (variables_found of_holes here [] ty vs) (outers_found of_holes file (declared ty vs here) p) (variables_none here [] ty x) (program_none file (declared ty vs here) y)
 program_none file here (ProgramIn.more {p = p} (OuterIn.func {f = f} w ps x) y) =
     let around = function_declaration file f ∷ here in
-    both (definition_holes (params_declared f.params []) around f.body) (outers_holes file around p) (definition_none (params_declared f.params []) around x) (program_none file around y)
+    both (definition_found of_holes (params_declared f.params []) around f.body) (outers_found of_holes file around p) (definition_none (params_declared f.params []) around x) (program_none file around y)
 
 pub ordered-none : OrderedProgramsHaveNoHole
 ordered-none p ordered = program_none p library ordered.placed

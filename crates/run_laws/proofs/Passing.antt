@@ -15,6 +15,7 @@ use Rattle.c_types.specs.declared.scope.Storage.{Storage}
 use Rattle.c_types.specs.declared.scope.Storage.TheVariants.{Automatic}
 use Rattle.c_types.specs.Arguments.{converted, wanted, value_faults, format_faults, address_faults, call_faults}
 use Rattle.c_types.specs.Expressions.{index_faults, place_faults, as_number, as_void, faults, args_faults}
+use Rattle.c_types.specs.Found.{option_found, initial_found, variables_found, first_found, code_found, body_found, definition_found}
 use Rattle.c_types.specs.Kinds.{kind}
 use Rattle.c_types.specs.Least.{fault_if}
 use Rattle.c_types.specs.Programs.{definition_faults}
@@ -24,7 +25,7 @@ use Rattle.c_types.specs.Statements.{variable_declaration, declared, length_faul
 use Rattle.c_types.proofs.Checked.{none_left, none_right}
 use Rattle.c_meaning.specs.Meaning.{definition, params_of}
 use Rattle.run_laws.specs.Holes.{Names}
-use Rattle.run_laws.specs.Passing.{IsArrayName, PassesArrays, Call, PassesByName, tree_calls, args_calls, option_calls, initial_calls, variables_calls, first_calls, code_calls, body_calls, definition_calls}
+use Rattle.run_laws.specs.Passing.{IsArrayName, PassesArrays, Call, PassesByName, tree_calls, args_calls, of_calls}
 use Rattle.run_laws.proofs.Called.{array_name, array_kind, Plain, plain_format, plain_address, plain_flag, AllStand, wanted_for, WantsEach, wants_head, wants_rest}
 use Rattle.run_laws.proofs.Faultless.{wants_params, declared-resolved, first_declared-resolved, agree_variable, agree_declared, agree_first}
 
@@ -125,11 +126,11 @@ module _ (program : List Outer) (there : Type 0) where
     void_passes : (e : Tree) → as_void ds (resolved_tree ds e) ++ faults ds (resolved_tree ds e) ≡ [] → AllPass (tree_calls ds (resolved_tree ds e))
     void_passes e h = tree_passes e (void_part e h)
 
-    number_option_passes : (o : Option Tree) → number_option ds (resolved_option ds o) ≡ [] → AllPass (option_calls ds (resolved_option ds o))
+    number_option_passes : (o : Option Tree) → number_option ds (resolved_option ds o) ≡ [] → AllPass (option_found of_calls ds (resolved_option ds o))
     number_option_passes None h = All-nil (PassesByName program)
     number_option_passes (Some e) h = number_passes e h
 
-    void_option_passes : (o : Option Tree) → void_option ds (resolved_option ds o) ≡ [] → AllPass (option_calls ds (resolved_option ds o))
+    void_option_passes : (o : Option Tree) → void_option ds (resolved_option ds o) ≡ [] → AllPass (option_found of_calls ds (resolved_option ds o))
     void_option_passes None h = All-nil (PassesByName program)
     void_option_passes (Some e) h = void_passes e h
 
@@ -139,15 +140,15 @@ module _ (program : List Outer) (there : Type 0) where
         let e' = resolved_tree ds e in
         All-append (PassesByName program) _ _ (number_passes e (none_left (as_number ds e' ++ faults ds e') _ h)) (list_passes es (none_right (as_number ds e' ++ faults ds e') _ h))
 
-    initial_passes : (start : Initial) → initial_faults ds (resolved_initial ds start) ≡ [] → AllPass (initial_calls ds (resolved_initial ds start))
-    initial_passes bare_start h = All-nil (PassesByName program)
-    initial_passes (one_start e) h = number_passes e h
-    initial_passes (list_start es) h = list_passes es h
+    initial_passes : (word : List ℕ) (start : Initial) → initial_faults ds (resolved_initial ds start) ≡ [] → AllPass (initial_found of_calls ds word (resolved_initial ds start))
+    initial_passes word bare_start h = All-nil (PassesByName program)
+    initial_passes word (one_start e) h = number_passes e h
+    initial_passes word (list_start es) h = list_passes es h
 
   -- ---- declarations and statements
 
   pub variables_pass : (storage : Storage) (ty : Ty) (n : ℕ) (vs : List Variable) (here around : List Declaration) → AllStand program there (here ++ around)
-      → variables_faults storage here around ty (resolved_variables here around ty (numbered (slot_in storage) n vs)) ≡ [] → AllPass (variables_calls here around ty (resolved_variables here around ty (numbered (slot_in storage) n vs)))
+      → variables_faults storage here around ty (resolved_variables here around ty (numbered (slot_in storage) n vs)) ≡ [] → AllPass (variables_found of_calls here around ty (resolved_variables here around ty (numbered (slot_in storage) n vs)))
   variables_pass storage ty n [] here around agree h = All-nil (PassesByName program)
   variables_pass storage ty n (v ∷ vs) here around agree h =
       let w = numbered_variable (slot_in storage n) v in
@@ -156,17 +157,17 @@ module _ (program : List Outer) (there : Type 0) where
       let more : AllStand program there (d ∷ (here ++ around)) = agree_variable program [] there (slot_in storage n) ty v (here ++ around) agree in
       let own = none_left (variable_faults storage here around ty r) _ h in
       let starts = none_left (initial_faults (d ∷ (here ++ around)) r.start) _ (none_right (length_faults r.shape r.start r.span) _ (none_right (fault_if (is_declared here r.word) Twice r.span) _ own)) in
-      All-append (PassesByName program) _ _ (initial_passes (d ∷ (here ++ around)) more v.start starts)
+      All-append (PassesByName program) _ _ (initial_passes (d ∷ (here ++ around)) more v.word v.start starts)
       (variables_pass storage ty (suc n) vs (d ∷ here) around more (none_right (variable_faults storage here around ty r) _ h))
 
-  first_passes : (ds : List Declaration) (n : ℕ) (f : First) → AllStand program there ds → first_faults ds (resolved_first ds (numbered_first n f)) ≡ [] → AllPass (first_calls ds (resolved_first ds (numbered_first n f)))
+  first_passes : (ds : List Declaration) (n : ℕ) (f : First) → AllStand program there ds → first_faults ds (resolved_first ds (numbered_first n f)) ≡ [] → AllPass (first_found of_calls ds (resolved_first ds (numbered_first n f)))
   first_passes ds n no_first agree h = All-nil (PassesByName program)
   first_passes ds n (first_act e) agree h = void_passes ds agree e h
   first_passes ds n (first_vars ty vs) agree h = variables_pass Automatic ty n vs [] ds agree h
 
   module _ (ret : Option Ty) where
     mutual
-      code_passes : (c : Code) (ds : List Declaration) (agree : AllStand program there ds) (n : ℕ) (in_loop : Bool) → code_faults ret ds in_loop (resolved_code ds n c) ≡ [] → AllPass (code_calls ds (resolved_code ds n c))
+      code_passes : (c : Code) (ds : List Declaration) (agree : AllStand program there ds) (n : ℕ) (in_loop : Bool) → code_faults ret ds in_loop (resolved_code ds n c) ≡ [] → AllPass (code_found of_calls ds (resolved_code ds n c))
       code_passes (empty s) ds agree n in_loop h = All-nil (PassesByName program)
       code_passes (act e s) ds agree n in_loop h = void_passes ds agree e h
       code_passes (block body s) ds agree n in_loop h = body_passes body [] ds agree n in_loop h
@@ -201,7 +202,7 @@ module _ (program : List Outer) (there : Type 0) where
           ap (λ z. code_faults ret z true (resolved_code es k a)) (sym same)
           ∙ none_right (firsts ++ (number_option ds' (resolved_option es t) ++ void_option ds' (resolved_option es u))) _ h in
           All-append (PassesByName program) _ _ (first_passes ds n f agree (none_left firsts _ clauses))
-          (subst (λ (z : List Declaration). AllPass (option_calls z (resolved_option es t) ++ (option_calls z (resolved_option es u) ++ code_calls z (resolved_code es k a)))) (sym same)
+          (subst (λ (z : List Declaration). AllPass (option_found of_calls z (resolved_option es t) ++ (option_found of_calls z (resolved_option es u) ++ code_found of_calls z (resolved_code es k a)))) (sym same)
           (All-append (PassesByName program) _ _ (number_option_passes es all t tests)
           (All-append (PassesByName program) _ _ (void_option_passes es all u steps) (code_passes a es all k true arms))))
       code_passes (give e s) ds agree n in_loop h = number_option_passes ds agree e (none_right (return_faults ret (resolved_option ds e) s) _ h)
@@ -209,7 +210,7 @@ module _ (program : List Outer) (there : Type 0) where
       code_passes (continue s) ds agree n in_loop h = All-nil (PassesByName program)
 
       body_passes : (b : Body) (here around : List Declaration) (agree : AllStand program there (here ++ around)) (n : ℕ) (in_loop : Bool)
-          → body_faults ret here around in_loop (resolved_body here around n b) ≡ [] → AllPass (body_calls here around (resolved_body here around n b))
+          → body_faults ret here around in_loop (resolved_body here around n b) ≡ [] → AllPass (body_found of_calls here around (resolved_body here around n b))
       body_passes done here around agree n in_loop h = All-nil (PassesByName program)
       body_passes (next c rest) here around agree n in_loop h =
           All-append (PassesByName program) _ _ (code_passes c (here ++ around) agree n in_loop (none_left _ _ h))
@@ -222,10 +223,10 @@ module _ (program : List Outer) (there : Type 0) where
           let inner : body_faults ret (declared ty ws here) around in_loop body ≡ [] =
           ap (λ z. body_faults ret z around in_loop body) (sym same) ∙ none_right (variables_faults Automatic here around ty rs) _ h in
           All-append (PassesByName program) _ _ (variables_pass Automatic ty n vs here around agree (none_left _ _ h))
-          (subst (λ (z : List Declaration). AllPass (body_calls z around body)) (sym same)
+          (subst (λ (z : List Declaration). AllPass (body_found of_calls z around body)) (sym same)
           (body_passes rest (declared ty ws here) around (agree_declared program [] there Automatic ty n vs here around agree) (n + length vs) in_loop inner))
 
   pub definition_passes : (ret : Option Ty) (b : Option Body) (here around : List Declaration) (agree : AllStand program there (here ++ around)) (n : ℕ)
-      → definition_faults ret here around (resolved_definition here around n b) ≡ [] → AllPass (definition_calls here around (resolved_definition here around n b))
+      → definition_faults ret here around (resolved_definition here around n b) ≡ [] → AllPass (definition_found of_calls here around (resolved_definition here around n b))
   definition_passes ret None here around agree n h = All-nil (PassesByName program)
   definition_passes ret (Some body) here around agree n h = body_passes ret body here around agree n false h

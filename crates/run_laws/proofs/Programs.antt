@@ -17,6 +17,7 @@ use Rattle.c_types.specs.declared.scope.ParamType.{ParamType}
 use Rattle.c_types.specs.declared.scope.Storage.TheVariants.{Static}
 use Rattle.c_types.specs.Evidence.{IsChecked}
 use Rattle.c_types.specs.Expressions.{as_number, as_void, faults}
+use Rattle.c_types.specs.Found.{variables_found, code_found, definition_found, outers_found}
 use Rattle.c_types.specs.Kinds.{same_ty}
 use Rattle.c_types.specs.Least.{fault_if}
 use Rattle.c_types.specs.Library.{library}
@@ -35,7 +36,7 @@ use Rattle.c_meaning.specs.Laws.{FitsCell, FitsWorld, FitsOut}
 use Rattle.c_meaning.proofs.Related.{program_related}
 use Rattle.c_meaning.proofs.Fits.{Fitting, fits}
 use Rattle.run_laws.specs.Typed.{EntityHasObject, IsTypedBy, IsSteady}
-use Rattle.run_laws.specs.Holes.{Names, tree_holes, definition_holes, variables_holes, code_holes, outers_holes, holes}
+use Rattle.run_laws.specs.Holes.{Names, tree_holes, holes, of_holes}
 use Rattle.run_laws.specs.Laws.{RunsFindObjects, ArraysArePassedByName, IsTypedByOne, HolesAreTyped, HolesFit, NameHasObject, NamesHaveObjects, TypedStatesShowVariables, EndsTyped, StatementsKeepTypes, ExpressionsFindObjects}
 use Rattle.run_laws.specs.Places.{outers_declared, file_scope, below, HasSlotIn, AgreesWith, Agrees, IsThere, IsScopeIn}
 use Rattle.run_laws.proofs.Keeping.{All-left, All-right, AllWithin, all_within_more, typed_moves, Any, From, of_file, file_below}
@@ -45,7 +46,7 @@ use Rattle.run_laws.proofs.Called.{no_such, some_same, not_true, same_types, nat
 use Rattle.run_laws.proofs.Faultless.{declared-resolved, globals_well, agree_declared, tree_well, code_well, definition_well}
 use Rattle.run_laws.specs.Reads.{Then, TakesAll, IsDefinedFor, GivesValue, Inside, Finds}
 use Rattle.run_laws.specs.Bodies.{FindsOuters, in_calls, RunFinds}
-use Rattle.run_laws.specs.Passing.{PassesByName, definition_calls, outers_calls, written_calls}
+use Rattle.run_laws.specs.Passing.{PassesByName, written_calls, of_calls}
 use Rattle.run_laws.proofs.Passing.{variables_pass, definition_passes}
 use Rattle.run_laws.proofs.Bodies.{globals_find}
 use Rattle.run_laws.proofs.Sound.{Context}
@@ -404,24 +405,24 @@ module _ (file : List Outer) (scopes : List Names) where
   abbrev Held : List Names → Type 0
   Held hs = All (Contains scopes) hs
 
-  vars_held : (ty : Ty) (vs : List Variable) (p : List Outer) (here : List Declaration) (n : ℕ) → Held (outers_holes whole here (resolved_outers file here n (outer_vars ty vs ∷ p)))
-      → Held (outers_holes whole (declared ty (numbered (slot_in Static) n vs) here) (resolved_outers file (declared ty (numbered (slot_in Static) n vs) here) (n + length vs) p))
+  vars_held : (ty : Ty) (vs : List Variable) (p : List Outer) (here : List Declaration) (n : ℕ) → Held (outers_found of_holes whole here (resolved_outers file here n (outer_vars ty vs ∷ p)))
+      → Held (outers_found of_holes whole (declared ty (numbered (slot_in Static) n vs) here) (resolved_outers file (declared ty (numbered (slot_in Static) n vs) here) (n + length vs) p))
   vars_held ty vs p here n h =
       let ws = numbered (slot_in Static) n vs in
       let rs = resolved_variables here [] ty ws in
-      subst (λ (z : List Declaration). Held (outers_holes whole z (resolved_outers file (declared ty ws here) (n + length vs) p))) (declared-resolved here [] ty ws here)
-      (All-right (Contains scopes) (variables_holes here [] ty rs) _ h)
+      subst (λ (z : List Declaration). Held (outers_found of_holes whole z (resolved_outers file (declared ty ws here) (n + length vs) p))) (declared-resolved here [] ty ws here)
+      (All-right (Contains scopes) (variables_found of_holes here [] ty rs) _ h)
 
-  function_held : (f : Function) (p : List Outer) (here : List Declaration) (n : ℕ) → Held (outers_holes whole here (resolved_outers file here n (outer_func f ∷ p)))
-      → Held (definition_holes (params_declared (numbered_params 0 f.params) []) (function_declaration file f ∷ here) (placed here f).body) × Held (outers_holes whole (function_declaration file f ∷ here) (resolved_outers file (function_declaration file f ∷ here) n p))
+  function_held : (f : Function) (p : List Outer) (here : List Declaration) (n : ℕ) → Held (outers_found of_holes whole here (resolved_outers file here n (outer_func f ∷ p)))
+      → Held (definition_found of_holes (params_declared (numbered_params 0 f.params) []) (function_declaration file f ∷ here) (placed here f).body) × Held (outers_found of_holes whole (function_declaration file f ∷ here) (resolved_outers file (function_declaration file f ∷ here) n p))
   function_held f p here n h =
       let ds = params_declared (numbered_params 0 f.params) [] in
       let around = function_declaration whole (placed here f) ∷ here in (
-        subst (λ (z : List Declaration). Held (definition_holes ds z (placed here f).body)) (scope-resolved here f) (All-left (Contains scopes) _ _ h),
-        subst (λ (z : List Declaration). Held (outers_holes whole z (resolved_outers file (function_declaration file f ∷ here) n p))) (scope-resolved here f) (All-right (Contains scopes) (definition_holes ds around (placed here f).body) _ h),
+        subst (λ (z : List Declaration). Held (definition_found of_holes ds z (placed here f).body)) (scope-resolved here f) (All-left (Contains scopes) _ _ h),
+        subst (λ (z : List Declaration). Held (outers_found of_holes whole z (resolved_outers file (function_declaration file f ∷ here) n p))) (scope-resolved here f) (All-right (Contains scopes) (definition_found of_holes ds around (placed here f).body) _ h),
       )
 
-  globals_are_well : (p : List Outer) (here : List Declaration) (n : ℕ) → Faultless here n p → Held (outers_holes whole here (resolved_outers file here n p)) → WellGlobals whole scopes file here n p
+  globals_are_well : (p : List Outer) (here : List Declaration) (n : ℕ) → Faultless here n p → Held (outers_found of_holes whole here (resolved_outers file here n p)) → WellGlobals whole scopes file here n p
   globals_are_well [] here n h g = tt
   globals_are_well (outer_vars ty vs ∷ p) here n h g = (
     globals_well whole scopes ty n vs here [] (none_left _ _ h) (All-left (Contains scopes) _ _ g),
@@ -435,7 +436,7 @@ module _ (file : List Outer) (scopes : List Names) where
       All-cons (Stands whole ⊤) (function_declaration file d) here ((λ word f e found. (function_matches d p here n h located word f e found).0), (λ sure. function_there d p here n h located lib (names_faultless d p here n h))) agree
 
   -- each definition that is still to come stands where its names agree, and its body is well-formed
-  known_later : (p : List Outer) (here : List Declaration) (n : ℕ) → LibraryIn here → AllStand whole ⊤ here → AllWithin of_file here → Located here (resolved_outers file here n p) → Faultless here n p → Held (outers_holes whole here (resolved_outers file here n p))
+  known_later : (p : List Outer) (here : List Declaration) (n : ℕ) → LibraryIn here → AllStand whole ⊤ here → AllWithin of_file here → Located here (resolved_outers file here n p) → Faultless here n p → Held (outers_found of_holes whole here (resolved_outers file here n p))
       → (word : List ℕ) (f : Function) → definition word (resolved_outers file here n p) ≡ Some f → IsKnown whole scopes (scope_at_end file here n p) f
   known_later [] here n lib agree at located h g word f found = absurd (cc)
   known_later (outer_vars ty vs ∷ p) here n lib agree at located h g word f found =
@@ -449,7 +450,7 @@ module _ (file : List Outer) (scopes : List Names) where
       (known_later p around n (λ e a. inr (lib e a)) agrees (at_file_function file d here at) (function_located d p here n located) (function_faultless d p here n h) held.1 word f) found
     where
       by_test : AllStand whole ⊤ (function_declaration file d ∷ here)
-          → Held (definition_holes (params_declared (numbered_params 0 d.params) []) (function_declaration file d ∷ here) (placed here d).body) × Held (outers_holes whole (function_declaration file d ∷ here) (resolved_outers file (function_declaration file d ∷ here) n p))
+          → Held (definition_found of_holes (params_declared (numbered_params 0 d.params) []) (function_declaration file d ∷ here) (placed here d).body) × Held (outers_found of_holes whole (function_declaration file d ∷ here) (resolved_outers file (function_declaration file d ∷ here) n p))
           → (b : Bool) → (definition word (resolved_outers file (function_declaration file d ∷ here) n p) ≡ Some f → IsKnown whole scopes (scope_at_end file (function_declaration file d ∷ here) n p) f)
           → cond b (Some (placed here d)) (definition word (resolved_outers file (function_declaration file d ∷ here) n p)) ≡ Some f → IsKnown whole scopes (scope_at_end file (function_declaration file d ∷ here) n p) f
       by_test agrees held true rest k =
@@ -470,14 +471,14 @@ module _ (file : List Outer) (scopes : List Names) where
 
   -- each call that is still to come passes arrays by their names
   outers_pass : (p : List Outer) (here : List Declaration) (n : ℕ) → LibraryIn here → AllStand whole ⊤ here → Located here (resolved_outers file here n p) → Faultless here n p
-      → All (PassesByName whole) (outers_calls whole here (resolved_outers file here n p))
+      → All (PassesByName whole) (outers_found of_calls whole here (resolved_outers file here n p))
   outers_pass [] here n lib agree located h = All-nil (PassesByName whole)
   outers_pass (outer_vars ty vs ∷ p) here n lib agree located h =
       let ws = numbered (slot_in Static) n vs in
       let more = declared ty ws here in
       let whole_scope : AllStand whole ⊤ (here ++ []) = subst (λ (ds : List Declaration). AllStand whole ⊤ ds) (sym (append-nil here)) agree in
       All-append (PassesByName whole) _ _ (variables_pass whole ⊤ Static ty n vs here [] whole_scope (none_left _ _ h))
-      (subst (λ (z : List Declaration). All (PassesByName whole) (outers_calls whole z (resolved_outers file more (n + length vs) p))) (sym (declared-resolved here [] ty ws here))
+      (subst (λ (z : List Declaration). All (PassesByName whole) (outers_found of_calls whole z (resolved_outers file more (n + length vs) p))) (sym (declared-resolved here [] ty ws here))
       (outers_pass p more (n + length vs) (λ d a. among_declared d ty ws here (lib d a)) (agree_globals whole ty n vs here agree) (vars_located ty vs p here n located) (vars_faultless ty vs p here n h)))
   outers_pass (outer_func d ∷ p) here n lib agree located h =
       let around = function_declaration file d ∷ here in
@@ -485,11 +486,11 @@ module _ (file : List Outer) (scopes : List Names) where
       let agrees : AllStand whole ⊤ around = stands_next d p here n lib agree located h in
       let own = none_right (params_faults [] (numbered_params 0 d.params)) _ (none_right (name_faults here (placed here d)) _ (none_left (function_faults whole here (placed here d)) _ h)) in
       let bodies : definition_faults d.ret params around (placed here d).body ≡ [] = ap (λ z. definition_faults d.ret params z (placed here d).body) (sym (scope-resolved here d)) ∙ own in
-      subst (λ (z : List Declaration). All (PassesByName whole) (definition_calls params z (placed here d).body ++ outers_calls whole z (resolved_outers file around n p))) (sym (scope-resolved here d))
+      subst (λ (z : List Declaration). All (PassesByName whole) (definition_found of_calls params z (placed here d).body ++ outers_found of_calls whole z (resolved_outers file around n p))) (sym (scope-resolved here d))
       (All-append (PassesByName whole) _ _ (definition_passes whole ⊤ d.ret d.body params around (agree_params whole 0 d.params [] around agrees) (length d.params) bodies)
       (outers_pass p around n (λ e a. inr (lib e a)) agrees (function_located d p here n located) (function_faultless d p here n h)))
 
-  module _ (faultless : Faultless library 0 file) (held : Held (outers_holes whole library whole)) where
+  module _ (faultless : Faultless library 0 file) (held : Held (outers_found of_holes whole library whole)) where
     -- a name of the library has no definition
     library_agrees : (d : Declaration) → Among d library → Agrees whole d
     library_agrees d at word f e found = matches_agree f d.entity (later file library 0 d word f faultless at e found)
@@ -666,14 +667,14 @@ main_whole p checked =
 
 module _ (file : List Outer) (checked : IsChecked file) (filling : Filling) (steady : IsSteady filling) (left n : ℕ) (ds : Names) where
   statement_whole : IsScopeIn (resolved file) n ds → (ret : Option Ty) (in_loop : Bool) (c : Code) → code_faults ret ds in_loop c ≡ [] → resolved_code ds n c ≡ c
-      → (w : World) → IsTypedBy ds w → IsTypedBy (file_scope (resolved file)) w → EndsTyped (code_holes ds c ++ holes (resolved file)) ds (exec filling (resolved file) (calls filling (resolved file) left) c w)
+      → (w : World) → IsTypedBy ds w → IsTypedBy (file_scope (resolved file)) w → EndsTyped (code_found of_holes ds c ++ holes (resolved file)) ds (exec filling (resolved file) (calls filling (resolved file) left) c w)
   statement_whole scope ret in_loop c free same w typed all =
-      let scopes = code_holes ds c ++ holes (resolved file) in
+      let scopes = code_found of_holes ds c ++ holes (resolved file) in
       let every : All (Contains scopes) scopes = All-contains_itself scopes in
-      let in_code : All (Contains scopes) (code_holes ds c) = All-left (Contains scopes) (code_holes ds c) (holes (resolved file)) every in
-      let in_whole : All (Contains scopes) (holes (resolved file)) = All-right (Contains scopes) (code_holes ds c) (holes (resolved file)) every in
+      let in_code : All (Contains scopes) (code_found of_holes ds c) = All-left (Contains scopes) (code_found of_holes ds c) (holes (resolved file)) every in
+      let in_whole : All (Contains scopes) (holes (resolved file)) = All-right (Contains scopes) (code_found of_holes ds c) (holes (resolved file)) every in
       let free_there : code_faults ret ds in_loop (resolved_code ds n c) ≡ [] = ap (λ z. code_faults ret ds in_loop z) same ∙ free in
-      let held_there : All (Contains scopes) (code_holes ds (resolved_code ds n c)) = subst (λ (z : Code). All (Contains scopes) (code_holes ds z)) (sym same) in_code in
+      let held_there : All (Contains scopes) (code_found of_holes ds (resolved_code ds n c)) = subst (λ (z : Code). All (Contains scopes) (code_found of_holes ds z)) (sym same) in_code in
       let stand : AllStand (resolved file) ⊥ ds = λ i d lt. (scope.agrees i d lt, (λ sure. absurd sure)) in
       let well = code_well (resolved file) scopes ⊥ ret c ds stand n in_loop free_there held_there in
       let faultless = faultless_whole file checked in
@@ -710,7 +711,7 @@ module _ (file : List Outer) (checked : IsChecked file) (filling : Filling) (ste
 pub statements-keep : StatementsKeepTypes
 statements-keep p checked filling steady left n ds =
     subst (λ (q : List Outer). IsScopeIn q n ds → (ret : Option Ty) (in_loop : Bool) (c : Code) → code_faults ret ds in_loop c ≡ [] → resolved_code ds n c ≡ c
-    → (w : World) → IsTypedBy ds w → IsTypedBy (file_scope q) w → EndsTyped (code_holes ds c ++ holes q) ds (exec filling q (calls filling q left) c w)) checked.is_resolved
+    → (w : World) → IsTypedBy ds w → IsTypedBy (file_scope q) w → EndsTyped (code_found of_holes ds c ++ holes q) ds (exec filling q (calls filling q left) c w)) checked.is_resolved
     (statement_whole p checked filling steady left n ds)
 
 pub expressions-find : ExpressionsFindObjects

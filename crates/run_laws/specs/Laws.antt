@@ -11,13 +11,14 @@ use Rattle.c_types.specs.Scopes.{denoted}
 use Rattle.c_types.specs.Slots.{resolved_tree, resolved_code}
 use Rattle.c_types.specs.Statements.{code_faults}
 use Rattle.c_types.specs.Expressions.{as_number, as_void, faults}
+use Rattle.c_types.specs.Found.{code_found}
 use Rattle.c_types.specs.Uses.{Use, uses}
 use Rattle.c_stdio.specs.Formats as printing
 use Rattle.c_meaning.specs.World.{World, Out, going, over, waiting}
 use Rattle.c_meaning.specs.Meaning.{Filling, exec, calls, run_program}
 use Rattle.c_meaning.specs.Laws.{FitsCell, FitsWorld}
 use Rattle.run_laws.specs.Typed.{HasObject, IsTypedBy, IsSteady, KeepsNumbers}
-use Rattle.run_laws.specs.Holes.{Names, code_holes, holes}
+use Rattle.run_laws.specs.Holes.{Names, holes, of_holes}
 use Rattle.run_laws.specs.Places.{file_scope, IsThere, IsScopeIn}
 use Rattle.run_laws.specs.Reads.{Finds}
 use Rattle.run_laws.specs.Bodies.{in_calls, RunFinds}
@@ -83,7 +84,7 @@ StatementsKeepTypes = (p : List Outer) → IsChecked p → (filling : Filling) �
     → (ret : Option Ty) (in_loop : Bool) (c : Code) → code_faults ret ds in_loop c ≡ []
     → resolved_code ds n c ≡ c
     → (w : World) → IsTypedBy ds w → IsTypedBy (file_scope p) w
-    → EndsTyped (code_holes ds c ++ holes p) ds (exec filling p (calls filling p left) c w)
+    → EndsTyped (code_found of_holes ds c ++ holes p) ds (exec filling p (calls filling p left) c w)
 
 -- An expression without a fault, which is a number, or where its value isn't wanted perhaps a call
 -- without a result, in which each name has its slot, evaluated in such a program from a state that

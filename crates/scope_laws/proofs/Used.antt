@@ -4,11 +4,12 @@ use Rattle.std.specs.List.{All, flat_map}
 use Rattle.c_tree.specs.declared.stmt.Ty.{Ty}
 use Rattle.c_tree.specs.Order.{ProgramIn}
 use Rattle.c_tree.specs.Tree.{Tree, constant, name, index, call, unary, cast, binary, choice, assign, bump, comma, hole, hole_after, Args, no_args, value, format, address, Initial, bare_start, one_start, list_start, Variable, First, no_first, first_act, first_vars, Code, empty, act, block, if_then, if_else, while, do_while, for, give, break, continue, Body, done, next, vars, Outer, outer_vars, outer_func}
+use Rattle.c_types.specs.Found.{option_found, initial_found, variables_found, first_found, code_found, body_found, definition_found, outers_found}
 use Rattle.c_types.specs.declared.scope.Declaration.{Declaration}
 use Rattle.c_types.specs.Library.{library}
 use Rattle.c_types.specs.Programs.{function_declaration, params_declared, program_faults}
 use Rattle.c_types.specs.Statements.{variable_declaration, declared, first_declared}
-use Rattle.c_types.specs.Uses.{Use, tree_uses, args_uses, option_uses, initial_uses, variables_uses, first_uses, code_uses, body_uses, definition_uses, outers_uses, uses}
+use Rattle.c_types.specs.Uses.{Use, tree_uses, args_uses, uses}
 use Rattle.scope_laws.specs.Spots.{Spot, spot, tree_spots, args_spots, option_spots, initial_spots, variables_spots, first_spots, code_spots, body_spots, definition_spots, outers_spots}
 use Rattle.scope_laws.specs.Laws.{Sees, SeesScope}
 use Rattle.scope_laws.proofs.Agreeing.{scopes_agree}
@@ -53,30 +54,30 @@ module _ (file : List Outer) where
   trees_used ds [] h = nil
   trees_used ds (e ∷ es) h = both (tree_used ds None e) (trees_used ds es) h
 
-  option_used : (ds : List Declaration) (e : Option Tree) → Every (SeesScope file) (option_spots ds e) → Every UseSees (option_uses ds e)
+  option_used : (ds : List Declaration) (e : Option Tree) → Every (SeesScope file) (option_spots ds e) → Every UseSees (option_found tree_uses ds e)
   option_used ds None h = nil
   option_used ds (Some e) h = tree_used ds None e h
 
   initial_used : (ds : List Declaration) (word : List ℕ) (start : Initial) → Every (SeesScope file) (initial_spots ds word start)
-      → Every UseSees (initial_uses ds word start)
+      → Every UseSees (initial_found tree_uses ds word start)
   initial_used ds word bare_start h = nil
   initial_used ds word (one_start e) h = tree_used ds (Some word) e h
   initial_used ds word (list_start es) h = trees_used ds es h
 
   variables_used : (here around : List Declaration) (ty : Ty) (vs : List Variable) → Every (SeesScope file) (variables_spots here around ty vs)
-      → Every UseSees (variables_uses here around ty vs)
+      → Every UseSees (variables_found tree_uses here around ty vs)
   variables_used here around ty [] h = nil
   variables_used here around ty (v ∷ vs) h =
       both (initial_used (variable_declaration ty v ∷ (here ++ around)) v.word v.start)
       (variables_used (variable_declaration ty v ∷ here) around ty vs) h
 
-  first_used : (ds : List Declaration) (f : First) → Every (SeesScope file) (first_spots ds f) → Every UseSees (first_uses ds f)
+  first_used : (ds : List Declaration) (f : First) → Every (SeesScope file) (first_spots ds f) → Every UseSees (first_found tree_uses ds f)
   first_used ds no_first h = nil
   first_used ds (first_act e) h = tree_used ds None e h
   first_used ds (first_vars ty vs) h = variables_used [] ds ty vs h
 
   mutual
-    code_used : (ds : List Declaration) (c : Code) → Every (SeesScope file) (code_spots ds c) → Every UseSees (code_uses ds c)
+    code_used : (ds : List Declaration) (c : Code) → Every (SeesScope file) (code_spots ds c) → Every UseSees (code_found tree_uses ds c)
     code_used ds (empty s) h = nil
     code_used ds (act e s) h = tree_used ds None e (tail h)
     code_used ds (block b s) h = body_used [] ds b (tail h)
@@ -93,18 +94,18 @@ module _ (file : List Outer) where
     code_used ds (break s) h = nil
     code_used ds (continue s) h = nil
 
-    body_used : (here around : List Declaration) (b : Body) → Every (SeesScope file) (body_spots here around b) → Every UseSees (body_uses here around b)
+    body_used : (here around : List Declaration) (b : Body) → Every (SeesScope file) (body_spots here around b) → Every UseSees (body_found tree_uses here around b)
     body_used here around done h = nil
     body_used here around (next c rest) h = both (code_used (here ++ around) c) (body_used here around rest) h
     body_used here around (vars ty vs rest) h =
         both (variables_used here around ty vs) (body_used (declared ty vs here) around rest) h
 
   definition_used : (here around : List Declaration) (d : Option Body) → Every (SeesScope file) (definition_spots here around d)
-      → Every UseSees (definition_uses here around d)
+      → Every UseSees (definition_found tree_uses here around d)
   definition_used here around None h = nil
   definition_used here around (Some b) h = body_used here around b h
 
-  outers_used : (here : List Declaration) (os : List Outer) → Every (SeesScope file) (outers_spots file here os) → Every UseSees (outers_uses file here os)
+  outers_used : (here : List Declaration) (os : List Outer) → Every (SeesScope file) (outers_spots file here os) → Every UseSees (outers_found tree_uses file here os)
   outers_used here [] h = nil
   outers_used here (outer_vars ty vs ∷ rest) h = both (variables_used here [] ty vs) (outers_used (declared ty vs here) rest) h
   outers_used here (outer_func f ∷ rest) h =
