@@ -1,8 +1,8 @@
 -- The text of a patch, read again, is the patched program.
-use Rattle.std.proofs.Common.{◌≡◌, ℕ, zero, suc, ◌+◌, List, [], ◌∷◌, map, drop, length, Ok, Option, Some, None, option_map, refl, sym, ap, subst, ◌∙◌, add-one, codes, pos, Contains, All}
+use Rattle.std.proofs.Common.{◌≡◌, ℕ, List, [], length, Ok, Option, Some, None, option_map, refl, sym, ap, subst, ◌∙◌, codes, pos, Contains, All}
 use Rattle.std.specs.Prelude.{slice_get}
-use Rattle.std.specs.List.{flat_map}
-use Rattle.std.proofs.lemmas.List.Elements.{All-nil, All-cons, All-head, All-tail, All-append, All-contains_itself}
+use Rattle.std.proofs.lemmas.List.Elements.{All-contains, Contains-get_or}
+use Rattle.std.proofs.lemmas.Option.{get_or_from_slice_get, slice_get_within}
 use Rattle.c_lex.specs.declared.token.TokenKind.TheVariants as kind
 use Rattle.c_lex.specs.Bytes.{Bytes}
 use Rattle.c_lex.specs.Lexemes.{Lexeme}
@@ -12,15 +12,14 @@ use Rattle.c_tree.specs.declared.expr.BinOp.TheVariants.{Both, Either}
 use Rattle.c_tree.specs.declared.place.Loc.{Loc}
 use Rattle.c_tree.specs.declared.place.LocKind.{LocKind}
 use Rattle.c_tree.specs.declared.place.LocKind.TheVariants as which
-use Rattle.c_tree.specs.Order.{ProgramIn}
-use Rattle.c_tree.specs.Tree.{Tree, Outer, bare_program}
+use Rattle.c_tree.specs.Tree.{Outer, bare_program}
 use Rattle.c_types.specs.Evidence.{IsChecked, IsOrdered}
 use Rattle.c_types.specs.Laws.{ResolvingChangesSlots, ResolvingKeepsOrder, ResolvingKeepsBare, ResolvingIgnoresSlots, ResolvedIsChecked}
 use Rattle.c_types.specs.Programs.{program_faults}
 use Rattle.c_types.specs.Slots.{resolved}
 use Rattle.c_types.specs.Unresolved.{unresolved, unresolved_tree}
 use Rattle.c_location.specs.Changes.{replaced as with_new, combined, guarded as with_test}
-use Rattle.c_location.specs.Locations.{Part, expression, statement, locations, part_at}
+use Rattle.c_location.specs.Locations.{locations, part_at}
 use Rattle.c_location.specs.Rewrites.{Rewrite, rewritten}
 use Rattle.c_grammar.specs.Programs.{Derives}
 use Rattle.c_grammar.specs.Texts.{IsInTextOrder}
@@ -28,13 +27,13 @@ use Rattle.c_splice.specs.Words.{IsWordOf}
 use Rattle.schemas.specs.declared.edit.Edit.{Edit}
 use Rattle.schemas.specs.Candidates.{candidates}
 use Rattle.patch_space.specs.declared.patch.Patch.{Patch}
+use Rattle.patch_space.proofs.EachPatch.{each_patch}
 use Rattle.patch_space.specs.Laws.{PatchedIsChecked}
-use Rattle.patch_space.specs.Space.{costs, patch_of, patches_from, patches, Change, replaced, narrowed, widened, guarded, rewrite_of, change_there, changed_at, changed, with_change, applied}
+use Rattle.patch_space.specs.Space.{patch_of, patches, Change, replaced, narrowed, widened, guarded, rewrite_of, change_there, changed_at, changed, with_change, applied}
 use Rattle.printed_tokens.specs.Laws.{ProgramsSourced, PurePrints}
-use Rattle.printed_tokens.specs.PrintedKinds.{Printable}
 use Rattle.printed_tokens.specs.Sourced.{SourcedProgram}
 use Rattle.c_reread.specs.ReadAgain.{IsTextOf, ReadAgain, TextsReadAgain}
-use Rattle.bare_laws.specs.Laws.{ChecksAs, CheckedAlike}
+use Rattle.bare_laws.specs.Laws.{CheckedAlike}
 use Rattle.patch_reread.specs.Suits.{Suits}
 use Rattle.patch_reread.specs.ReadsAgain.{ReadsAs, IsSourceOf}
 use Rattle.patch_reread.specs.Texts.{changed_text, text_with_change, patched_text}
@@ -108,19 +107,6 @@ module _ (source : Bytes) (tokens : List Lexeme) (p : List Outer) (l : Loc)
   text_by which.Guard e (narrowed new) h = absurd h
   text_by which.Guard e (widened new) h = absurd h
   text_by which.Guard e (guarded new) h = x.guard e new h
-
--- the location of a number is the first of those that are left after as many
-nth : {A : Type 0} (n : ℕ) (xs : List A) (y : A) (ys : List A) → drop n xs ≡ y ∷ ys
-    → slice_get xs n ≡ Some y
-nth zero xs y ys is = ap (λ zs. slice_get zs 0) is
-nth (suc n) [] y ys is = absurd (cc)
-nth (suc n) (x ∷ xs) y ys is = nth n xs y ys is
-
-after : {A : Type 0} (n : ℕ) (xs : List A) (y : A) (ys : List A) → drop n xs ≡ y ∷ ys
-    → drop (suc n) xs ≡ ys
-after zero xs y ys is = ap (λ zs. drop 1 zs) is
-after (suc n) [] y ys is = absurd (cc)
-after (suc n) (x ∷ xs) y ys is = after n xs y ys is
 
 -- a source, its tokens, and the program that they derive, which has no fault
 module _ (laws : Laws) (source : Bytes) (tokens : List Lexeme) (room : ℕ) (found : List Outer)
@@ -213,47 +199,27 @@ module _ (laws : Laws) (source : Bytes) (tokens : List Lexeme) (room : ℕ) (fou
       by_change None h fine = source_reads
       by_change (Some c) h fine = change_reads l among c (h c refl) fine
 
-  edits_read : (all : List Loc) (l : Loc) (among : Contains (locations program) l) (cost n : ℕ)
-      → slice_get all n ≡ Some l → (edits : List Edit)
-      → All (λ (edit : Edit). (c : Change) → change_there edit (part_at l program) ≡ Some c
-      → Suits (again l among).macros l.kind c) edits
-      → All (MakesPatched all) (map (patch_of cost n) edits)
-  edits_read all l among cost n is [] h = All-nil (MakesPatched all)
-  edits_read all l among cost n is (edit ∷ edits) h =
+  patch_reads : (l : Loc) (cost n : ℕ) (edit : Edit) → slice_get (locations program) n ≡ Some l
+      → Contains (candidates program l cost) edit
+      → MakesPatched (locations program) (patch_of cost n edit)
+  patch_reads l cost n edit is candidate =
+      let among : Contains (locations program) l =
+      subst (Contains (locations program)) (get_or_from_slice_get (locations program) n l l is)
+      (Contains-get_or (locations program) n l (slice_get_within (locations program) n l is)) in
       let P = λ (e : Edit). (c : Change) → change_there e (part_at l program) ≡ Some c
       → Suits (again l among).macros l.kind c in
-      let first : MakesText l edit = edit_reads l among edit (All-head P edit edits h) in
-      All-cons (MakesPatched all) (patch_of cost n edit) (map (patch_of cost n) edits)
-      (subst
+      subst
       (λ o. IsChecked (with_change program (changed_at program edit o))
       → ReadsAs (text_with_change source (changed_at program edit o))
       (with_change program (changed_at program edit o)))
-      (sym is) first)
-      (edits_read all l among cost n is edits (All-tail P edit edits h))
-
-  cost_reads : (all : List Loc) (cost n : ℕ) (ls : List Loc) → drop n all ≡ ls
-      → All (Contains (locations program)) ls → All (MakesPatched all) (patches_from program cost n ls)
-  cost_reads all cost n [] is h = All-nil (MakesPatched all)
-  cost_reads all cost n (l ∷ ls) is h =
-      let among = All-head (Contains (locations program)) l ls h in
-      All-append (MakesPatched all) (map (patch_of cost n) (candidates program l cost))
-      (patches_from program cost (n + 1) ls)
-      (edits_read all l among cost n (nth n all l ls is) (candidates program l cost) (suits l among cost))
-      (cost_reads all cost (n + 1) ls (ap (λ k. drop k all) (add-one n) ∙ after n all l ls is)
-      (All-tail (Contains (locations program)) l ls h))
-
-  costs_read : (all : List Loc) (cs : List ℕ) → All (Contains (locations program)) all
-      → All (MakesPatched all) (flat_map (λ cost. patches_from program cost 0 all) cs)
-  costs_read all [] h = All-nil (MakesPatched all)
-  costs_read all (c ∷ cs) h =
-      All-append (MakesPatched all) (patches_from program c 0 all)
-      (flat_map (λ cost. patches_from program cost 0 all) cs) (cost_reads all c 0 all refl h)
-      (costs_read all cs h)
+      (sym is)
+      (edit_reads l among edit
+      (All-contains P (candidates program l cost) edit (suits l among cost) candidate))
 
   patches_read : All (λ patch. ReadsAs (patched_text source program patch)
       (applied program (locations program) patch)) (patches program)
   patches_read =
-      let texts = costs_read (locations program) costs (All-contains_itself (locations program)) in
+      let texts = each_patch program (MakesPatched (locations program)) patch_reads in
       let fine = laws.patched program checked ordered in
       λ k d lt. texts k d lt (fine k d lt)
 

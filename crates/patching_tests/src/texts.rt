@@ -33,6 +33,22 @@ int main(void) {
 }
 ";
 
+/// A source, and the line and the column of a place in it; after its end they are those of the end.
+const PLACES: &[(&str, u32, (usize, usize))] = &[
+    ("", 0, (1, 1)),
+    ("int", 0, (1, 1)),
+    ("int", 3, (1, 4)),
+    ("ab\ncd\n", 2, (1, 3)),
+    ("ab\ncd\n", 3, (2, 1)),
+    ("ab\ncd\n", 5, (2, 3)),
+    ("ab\ncd\n", 6, (3, 1)),
+    ("ab\n\nc", 3, (2, 1)),
+    ("ab\n\nc", 5, (3, 2)),
+    ("ab\n\nc", 9, (3, 2)),
+    ("\n\n\n", 2, (3, 1)),
+    ("a\r\n\tb", 4, (2, 2)),
+];
+
 #[test]
 fn a_condition_is_replaced_on_its_line(rt: HostRuntime) -> Result<(), Fail> {
     let alloc = rt.alloc();
@@ -51,17 +67,12 @@ fn a_condition_is_replaced_on_its_line(rt: HostRuntime) -> Result<(), Fail> {
 
 #[test]
 fn lines_and_columns_are_counted_from_one(rt: HostRuntime) -> Result<(), Fail> {
-    let places = [
-        (0, (1, 1)),
-        (1, (1, 2)),
-        (2, (1, 3)),
-        (3, (2, 1)),
-        (4, (3, 1)),
-        (5, (3, 2)),
-        (9, (3, 2)),
-    ];
-    for (place, want) in places {
-        assert_eq!(rt; line_and_column(b"ab\n\nc", place), want);
+    for (source, place, want) in PLACES {
+        assert_eq!(rt;
+            line_and_column(source.as_bytes(), *place),
+            *want,
+            "at {place}"
+        );
     }
     Ok(())
 }

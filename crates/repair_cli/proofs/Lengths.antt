@@ -20,11 +20,12 @@ use Rattle.test_suite.specs.declared.fault.SuiteFault.{SuiteFault}
 use Rattle.test_suite.specs.declared.fault.SuiteFault.TheVariants as refused
 use Rattle.repair_cli.specs.Complete.{OnRead, IsFaultless, longest, longest_of}
 use Rattle.repair_cli.specs.Faults.{Refuses, IsFault, fault_words, fault_message}
+use Rattle.patch_text.specs.Lines.{line_of, column_of}
 use Rattle.repair_cli.specs.Refusal.{status_of, message_of}
 use Rattle.repair_cli.specs.Source.{Source, Cause}
 use Rattle.repair_cli.specs.SuiteFaults.{IsSuiteFault, StatesNoSuite, suite_message, fault_words as tests_words}
 use Rattle.repair_cli.specs.Words.{Command, repair, command_in}
-use Rattle.repair_cli.specs.Texts.{line_of, column_of, position_of, located, faulty, faulty_suite, said_of, said_of_test, cannot_read}
+use Rattle.repair_cli.specs.Texts.{position_of, located, faulty, faulty_suite, said_of, said_of_test, cannot_read}
 use Rattle.repair_cli.specs.declared.fault.ProgramFault.{ProgramFault}
 use Rattle.repair_cli.specs.declared.fault.ProgramFault.TheVariants.{TooLong, Lex, Parse, Kinds, TooManyLocations, NoMemory}
 use Rattle.repair_cli.specs.declared.fault.TestsFault.{TestsFault}

@@ -4,7 +4,6 @@ pub mod Commands
 pub mod Lengths
 pub mod Patching
 pub mod Pieces
-pub mod Places
 pub mod Reading
 pub mod Refusing
 pub mod Searching

@@ -1,20 +1,12 @@
 -- The messages of a call: each is one line.
-use Rattle.std.specs.Prelude.{ℕ, ◌+◌, ◌==◌, not, List, ◌++◌, take, Option, Some, None, codes, decimal}
-use Rattle.std.specs.List.{count_by, suffix_len}
+use Rattle.std.specs.Prelude.{ℕ, List, ◌++◌, Option, Some, None, codes, decimal}
+use Rattle.patch_text.specs.Lines.{line_of, column_of}
 
 -- the words are no command
 abbrev pub usage : List ℕ
 usage = codes "usage: f1x repair PROGRAM SUITE [--limit=N] [--max-patches=N] [--edit]\n"
 
--- the line of a place: 1, and the line feeds before it
-abbrev pub line_of : List ℕ → ℕ → ℕ
-line_of bytes place = 1 + count_by (λ b. b == 10) (take place bytes)
-
--- the column of a place: 1, and the bytes since the last line feed before it
-abbrev pub column_of : List ℕ → ℕ → ℕ
-column_of bytes place = 1 + suffix_len (λ b. not (b == 10)) (take place bytes)
-
--- both of a place
+-- the line and the column of a place
 abbrev pub position_of : List ℕ → ℕ → ℕ × ℕ
 position_of bytes place = (line_of bytes place, column_of bytes place)
 

@@ -5,7 +5,6 @@ ghost use Rattle.c_types.specs.Evidence.{IsOrdered};
 ghost use Rattle.c_types.specs.Shown.{tree_of};
 ghost use Rattle.test_suite.specs.Suite.{stated};
 ghost use Rattle.test_suite.specs.declared.fault.SuiteFault.TheVariants as kinds;
-ghost use Rattle.repair_cli.specs.Accepted.{IsShort};
 ghost use Rattle.repair_cli.specs.Complete.{HasFiles, OnRead};
 ghost use Rattle.repair_cli.specs.Jobs.{job_of, CanBeDone};
 ghost use Rattle.repair_cli.specs.Limits.{suite_limit};
@@ -117,7 +116,6 @@ fn program_named<'a, F: Files>(
 
 // The refusal of the source of this name for this fault.
 fn refused<'a>(name: &'a str, source: &[u8], fault: ProgramFault) -> Refusal<'a>
-    requires short { IsShort source.now }
     requires fault { IsFaultUnless source.now fault }
     ensures { IsRefusal name.now source.now (status_of result) (message_of result) }
 {

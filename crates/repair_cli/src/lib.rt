@@ -8,7 +8,6 @@ mod gather;
 mod job;
 mod laws;
 mod limits;
-mod position;
 mod refusal;
 mod report;
 mod run;

@@ -1,14 +1,13 @@
 //! Why there is no answer, and the messages that say so.
-ghost use Rattle.std.specs.Prelude.{◌≡◌, ◌≤◌, ◌++◌, length, IfSome, codes};
-ghost use Rattle.repair_cli.specs.Accepted.{IsShort};
-ghost use Rattle.repair_cli.specs.Faults.{fault_place, fault_words, fault_message};
+ghost use Rattle.std.specs.Prelude.{◌≡◌, ◌++◌, codes};
+ghost use Rattle.repair_cli.specs.Faults.{fault_words, fault_message};
 ghost use Rattle.repair_cli.specs.Message.{text_of, place_text};
 ghost use Rattle.repair_cli.specs.Refusal.{message_of, status_of};
 ghost use Rattle.repair_cli.specs.Texts.{said_of, faulty, faulty_suite};
 
 use crate::fault::{ProgramFault, TestsFault};
-use crate::position::line_and_column;
 use crate::status::Status;
+use patch_text::line_and_column;
 
 /// The line that says which words are a command.
 const USAGE: &[u8] = b"usage: f1x repair PROGRAM SUITE [--limit=N] [--max-patches=N] [--edit]";
@@ -23,7 +22,7 @@ pub(crate) enum Refusal<'a> {
         name: &'a str,
         fault: ProgramFault,
         /// The line and the column of the fault, counted from 1, if it has a place.
-        at: Option<(u32, u32)>,
+        at: Option<(usize, usize)>,
     },
     /// The suite is refused.
     Suite {
@@ -42,7 +41,7 @@ pub(crate) enum Refusal<'a> {
 #[derive(Clone, Copy)]
 pub(crate) enum Place {
     /// At a line and a column of a source, both counted from 1.
-    Position(u32, u32),
+    Position(usize, usize),
     /// In a test of a suite, by its number, counted from 0.
     Test(u32),
 }
@@ -71,8 +70,6 @@ impl<'a> Refusal<'a> {
 
     /// The program of this name, of which this is the source, is refused for this fault.
     pub(crate) fn of_program(name: &'a str, source: &[u8], fault: ProgramFault) -> Refusal<'a>
-        requires within { IfSome (fault_place fault) (λ place. place ≤ length source.now) }
-        requires short { IsShort source.now }
         ensures status { status_of result ≡ Status.ProgramRefused }
         ensures message { message_of result ≡ fault_message name.now source.now fault }
     {
@@ -115,7 +112,7 @@ impl<'a> Refusal<'a> {
 }
 
 // These words are said of the program of this name, or of a line and a column in it.
-fn of_source<'a>(name: &'a str, at: Option<(u32, u32)>, words: &'static str) -> Message<'a>
+fn of_source<'a>(name: &'a str, at: Option<(usize, usize)>, words: &'static str) -> Message<'a>
     ensures { text_of result ≡ faulty name.now at words.now }
 {
     match at {

@@ -77,7 +77,7 @@ fn write_place<S: Sink>(sink: &mut S, at: Option<Place>) -> Result<(), Failed>
 }
 
 // Writes the line and the column, each after a colon.
-fn write_position<S: Sink>(sink: &mut S, line: u32, column: u32) -> Result<(), Failed>
+fn write_position<S: Sink>(sink: &mut S, line: usize, column: usize) -> Result<(), Failed>
     ensures faults { S.faults sink.old ≤ S.faults sink.new }
     ensures written { let wrote = seen S.faults S.written sink.old sink.new in
         let text = position_text line column in
@@ -91,7 +91,7 @@ fn write_position<S: Sink>(sink: &mut S, line: u32, column: u32) -> Result<(), F
 }
 
 // Writes a colon, and the number after it.
-fn write_number<S: Sink>(sink: &mut S, n: u32) -> Result<(), Failed>
+fn write_number<S: Sink>(sink: &mut S, n: usize) -> Result<(), Failed>
     ensures faults { S.faults sink.old ≤ S.faults sink.new }
     ensures written { let wrote = seen S.faults S.written sink.old sink.new in
         let text = number_text n in

@@ -1,7 +1,6 @@
 //! The messages for faults at places of a program.
 
 use crate::fault::ProgramFault;
-use crate::position::line_and_column;
 use crate::refusal::Refusal;
 use crate::report::refuse;
 use c_lex::LexFault;
@@ -10,19 +9,6 @@ use fx_io::MemSink;
 use std::alloc::Global;
 use std::process::Abort;
 use std::test::Fail;
-
-/// A source, and the line and the column of a place in it.
-const PLACES: [(&str, u32, (u32, u32)); 9] = [
-    ("", 0, (1, 1)),
-    ("int", 0, (1, 1)),
-    ("int", 3, (1, 4)),
-    ("ab\ncd\n", 2, (1, 3)),
-    ("ab\ncd\n", 3, (2, 1)),
-    ("ab\ncd\n", 5, (2, 3)),
-    ("ab\ncd\n", 6, (3, 1)),
-    ("\n\n\n", 2, (3, 1)),
-    ("a\r\n\tb", 4, (2, 2)),
-];
 
 /// What is wrong, and what is said of it.
 const FAULTS: [(ProgramFault, &str); 13] = [
@@ -86,16 +72,6 @@ fn refused(rt: &impl Abort, alloc: Global, refusal: Refusal, want: &str) -> Resu
     let status = refuse(refusal, &mut err);
     assert_eq!(rt; status.number(), 4, "{want}");
     assert_eq!(rt; err.written(), want.as_bytes(), "{want}");
-    Ok(())
-}
-
-#[test]
-fn places_have_lines_and_columns(rt: HostRuntime) -> Result<(), Fail> {
-    for (source, place, want) in PLACES {
-        let source = source.as_bytes();
-        assert!(rt; place as usize <= source.len() && source.len() < 100);
-        assert_eq!(rt; line_and_column(source, place), want);
-    }
     Ok(())
 }
 

@@ -1,7 +1,7 @@
 //! How a run ends: the first of its ends by time; what is read and written by bytes.
 
 use crate::run::{ENOUGH, joined, outcome, test_of};
-use c_meaning::Outcome;
+use c_meaning::{End, Outcome, State, finished, outcome_at};
 use std::test::Fail;
 
 const BEFORE: &str = "int main(void) { ";
@@ -65,6 +65,22 @@ const READ: &[(&str, &[u8], u8)] = &[
     ("return getchar() - '0';", b"7 is not read whole", 7),
 ];
 
+/// What is still to be written, the status that is wanted, how a run ended, and what comes of it.
+const OUTCOMES: &[(&[u8], u8, End, Outcome)] = &[
+    (b"", 0, End::Exit(0), Outcome::Passed),
+    (b"", 3, End::Exit(259), Outcome::Passed),
+    (b"", 0, End::Exit(3), Outcome::Status(3)),
+    (b"", 3, End::Exit(0), Outcome::Status(0)),
+    (b"", 0, End::Exit(-1), Outcome::Status(255)),
+    (b"a", 0, End::Exit(0), Outcome::Short),
+    (b"a", 0, End::Exit(3), Outcome::Short),
+    (b"", 0, End::Wrong, Outcome::Wrong),
+    (b"a", 0, End::Trapped, Outcome::Trapped),
+    (b"", 0, End::Budget, Outcome::Budget),
+    (b"", 0, End::Depth, Outcome::Depth),
+    (b"a", 0, End::Cells, Outcome::Cells),
+];
+
 /// What is read is written again.
 const COPIED: &[&[u8]] = &[b"", b"a", b"a\0\xff\nz", b"\xff\xfe\r\n"];
 
@@ -76,6 +92,20 @@ fn runs_end(rt: HostRuntime) -> Result<(), Fail> {
         let test = test_of(alloc, b"", output, 0)?;
         let found = outcome(alloc, &source, &test, ENOUGH)?;
         assert_eq!(rt; found, *want, "at {text}");
+    }
+    Ok(())
+}
+
+#[test]
+fn ends_have_outcomes(rt: HostRuntime) -> Result<(), Fail> {
+    let alloc = rt.alloc();
+    for (left, wanted, end, want) in OUTCOMES {
+        let test = test_of(alloc, b"", left, *wanted)?;
+        let state = State::new(alloc, &test, ENOUGH);
+        assert_eq!(rt; outcome_at(*wanted, &state, *end), *want, "at {end:?}");
+        if let End::Exit(value) = end {
+            assert_eq!(rt; finished(*wanted, &state, *value), *want, "at {value}");
+        }
     }
     Ok(())
 }

@@ -1,10 +1,7 @@
 -- The refusal of a source for its first fault.
 use Rattle.repair_cli.specs.Refusal.{status_of, message_of}
-use Rattle.repair_cli.proofs.Refusing.{fault_within, is_refusal}
+use Rattle.repair_cli.proofs.Refusing.{is_refusal}
 use Rattle.repair_cli.proofs.gather.refused.Goals as goal
-
-pub of_program-requires-clause-within : goal.of_program-requires-clause-within
-of_program-requires-clause-within c = fault_within c.args.source.now c.args.fault (c.requires.fault c.in_default.not-NoMemory)
 
 pub returns-in_default : goal.returns-in_default
 returns-in_default c =
