@@ -67,7 +67,7 @@ prefix_operator mark.Not = Some prefix.Flip
 prefix_operator mark.Tilde = Some prefix.Compl
 prefix_operator _ = None
 
--- `++`, which is true, and `--` (C11 6.5.2.4, 6.5.3.1)
+-- true of `++`, false of `--` (C11 6.5.2.4, 6.5.3.1)
 abbrev pub bump_operator : Punct → Option Bool
 bump_operator mark.Increment = Some true
 bump_operator mark.Decrement = Some false

@@ -30,7 +30,6 @@ pub use laws::{
     resolving_changes_slots, resolving_ignores_slots,
 };
 pub use reads::Reads;
-pub use resolve_file::resolve as resolve_program;
 pub use scope::{Declaration, Entity, ParamType, ParamTypes, Scope, Storage};
 pub use typed::Typed;
 pub use visible::Visible;

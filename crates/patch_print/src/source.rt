@@ -40,6 +40,7 @@ pub fn splice(
         → IfOk result (λ text.
         ReadsAs text.items (edited_program (tree_of program.now) loc.now edit.now)) }
 {
+    // (a law: it does nothing)
     patches_read_again();
     let there = changed_at(alloc, program, loc, edit)?;
     source_with(alloc, source, &there)

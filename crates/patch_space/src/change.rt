@@ -170,6 +170,7 @@ pub fn changed(
     ensures own { IsSpaceOf (tree_of program.now) space.now → IfOk result (λ r. IsSome r) }
 {
     let patch = space.patch(i);
+    // (a law: it does nothing)
     patches_change();
     changed_by(alloc, program.program(), space.all_locations(), patch)
 }

@@ -44,6 +44,7 @@ pub fn run_alone<F: Files, O: Sink, E: Sink>(
         HasRoom given (O.room out.old) → longest given ≤ E.room err.old → IsFaultless result }
     ensures read_again { PatchesAreReadAgain (source F.held F.faults words.now files.old files.new) }
 {
+    // (a law: it does nothing)
     patches_read_again();
     match answered(alloc, words, files) {
         Ok(reply) => report(&reply, out, err),

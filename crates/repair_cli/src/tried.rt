@@ -19,7 +19,8 @@ use repair_job::Shown;
 use schemas::{LocFault, locations};
 use std::alloc::Global;
 
-/// That the program has so few locations that its patches are listed.
+/// That the program has so few locations that its patches are listed. Here they are listed to be
+/// counted, before the suite is read; the space lists them again where a test fails.
 pub(crate) fn few_locations(alloc: Global, program: &Typed) -> Result<(), LocFault>
     ensures few { IfOk result (λ _. HasFewLocations (tree_of program.now)) }
     ensures refused { IfErr result (λ fault. Causes fault (locations_of (tree_of program.now))) }
@@ -78,6 +79,7 @@ fn patched_text(alloc: Global, job: &Job, space: &Space, rank: u32) -> Result<Ve
     ensures { let patch = slice_get (patches (job_of job.now)) rank in
         IfOk result (λ text. option_map (text_with (job_of job.now)) patch ≡ Some text.items) }
 {
+    // (a law: it does nothing)
     patches_change();
     let patch = space.patch(rank);
     let location = space.location(patch.loc);

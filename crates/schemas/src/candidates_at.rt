@@ -109,7 +109,8 @@ fn old(alloc: Global, part: &Part) -> Result<Vec<Expr>, NoMemory>
     }
 }
 
-/// The expression that stands there, and those that the edits of lower costs make.
+/// The expression that stands there, and those that the edits of lower costs make. They are made anew
+/// for each cost: nothing is kept between calls.
 fn before(
     alloc: Global,
     kind: LocKind,

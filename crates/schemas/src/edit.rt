@@ -97,7 +97,8 @@ fn side_by_one(alloc: Global, e: &Expr, up: bool) -> Result<Expr, NoMemory>
     }
 }
 
-/// The expression joined to the bound.
+/// The expression joined to the bound: what a change makes of it in place, as a tree of its own that
+/// candidates are compared by.
 #[tactic(auto, using(crate::proofs::Spans::spans))]
 fn joined(alloc: Global, e: &Expr, op: BinOp, bound: &Bound) -> Result<Expr, NoMemory>
     ensures { IfOk result (λ r. tree r
