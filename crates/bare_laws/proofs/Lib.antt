@@ -3,3 +3,4 @@ pub mod Scopes
 pub mod Expressions
 pub mod Statements
 pub mod Programs
+pub mod Resolved

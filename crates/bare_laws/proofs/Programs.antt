@@ -18,8 +18,10 @@ use Rattle.c_types.specs.Least.{fault_if}
 use Rattle.c_types.specs.Library.{library}
 use Rattle.c_types.specs.Programs.{is_defined, param_type, param_declaration, function_declaration, params_declared, params_faults, same_result, same_params, redeclared_faults, name_faults, definition_faults, function_faults, outers_faults, has_no_params, is_main, has_main, program_faults}
 use Rattle.c_types.specs.Scopes.{is_declared}
+use Rattle.c_types.specs.Slots.{resolved}
 use Rattle.c_types.specs.Statements.{declared}
 use Rattle.bare_laws.specs.Laws.{kinds_of, ChecksAs, FaultlessAlike}
+use Rattle.bare_laws.proofs.Resolved.{plain-alike}
 use Rattle.bare_laws.proofs.SameKinds.{SameKinds, none, one, test, both, but_equal}
 use Rattle.bare_laws.proofs.Scopes.{plain, slotless, declared-same}
 use Rattle.bare_laws.proofs.Statements.{declared_all-same, variables-alike, body-alike}
@@ -186,5 +188,6 @@ pub checked : FaultlessAlike → ResolvedIsChecked → ResolvingKeepsBare → (q
 checked alike resolves keeps q p c e = record {
   faultless = λ end. alike q p 0 end (sym e) (c.faultless 0);
   checked = resolves p 0 (alike q p 0 0 (sym e) (c.faultless 0));
-  is_same = keeps p ∙ e;
+  is_same =
+      plain-alike (resolved p) q (resolves p 0 (alike q p 0 0 (sym e) (c.faultless 0))) c (keeps p ∙ e);
 }

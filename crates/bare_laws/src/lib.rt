@@ -4,4 +4,4 @@
 
 mod laws;
 
-pub use laws::{checked_alike, same_faults};
+pub use laws::{checked_alike, same_faults, slots_alike};

@@ -17,7 +17,7 @@ pub trait Sink {
     ghost room: { Self → ℕ };
 
     /// Appends the front of the piece, and answers how many bytes it took:
-    /// at least one of a piece that isn't empty.
+    /// at least one of a piece that isn't empty. The count of failures is as it was then.
     ///
     /// # Errors
     /// A failure, which `faults` counts. Nothing is appended then.
@@ -27,6 +27,7 @@ pub trait Sink {
         ensures some { IfOk result (λ n. 0 < length piece.now → 0 < n) }
         ensures bytes { IfOk result (λ n. written self.new ≡
             appended (written self.old) (take n piece.now)) }
+        ensures steady { IfOk result (λ _. faults self.new ≡ faults self.old) }
         ensures failed { OnErr result (written self.new ≡ written self.old) }
         ensures cause { OnErr result (Rose (faults self.old) (faults self.new)) }
         ensures room { 0 < length piece.now → length piece.now ≤ room self.old → IsOkAnd result (λ n.

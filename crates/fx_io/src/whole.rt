@@ -83,13 +83,14 @@ pub fn read_whole<F: Files>(
     read_chosen(alloc, files, cap)
 }
 
-/// Writes all of the bytes, and takes no memory.
+/// Writes all of the bytes, and takes no memory. After a failed write no other is tried.
 ///
 /// # Errors
 /// A write that failed, which the sink's `faults` counts. A front of the bytes was written then, and not all.
 pub fn write_whole<S: Sink>(sink: &mut S, bytes: &[u8]) -> Result<(), Failed>
     ensures faults { S.faults sink.old ≤ S.faults sink.new }
     ensures ok { OnOk result (S.written sink.new ≡ appended (S.written sink.old) bytes.now) }
+    ensures steady { OnOk result (S.faults sink.new ≡ S.faults sink.old) }
     ensures failed { OnErr result ((n : ℕ) × (n < length bytes.now)
         × (S.written sink.new ≡ appended (S.written sink.old) (take n bytes.now))) }
     ensures cause { OnErr result (Rose (S.faults sink.old) (S.faults sink.new)) }
