@@ -19,7 +19,7 @@ use Rattle.repair_cli.specs.Accepted.{IsProgram, IsSuite}
 use Rattle.repair_cli.specs.Ends.{Ends, IsAnswer, status_of_answer}
 use Rattle.repair_cli.specs.Faults.{Refuses}
 use Rattle.repair_cli.specs.Laws.{given, OneSuiteRefusal, NeverBothOfSuite, OneReply, OneEnd, IsSettled, AcceptedAreAnswered, IsAnswered}
-use Rattle.repair_cli.specs.Sinks.{Seen, Appends}
+use Rattle.repair_cli.specs.Sinks.{Seen, Takes}
 use Rattle.repair_cli.specs.Source.{Files, File, States, Cause, IsUnreadable, HoldsSomeProgram, HoldsNoProgram, HoldsSuite, HoldsNoSuite}
 use Rattle.repair_cli.specs.SuiteFaults.{IsSuiteFault, StatesNoSuite, suite_message}
 use Rattle.repair_cli.specs.Texts.{usage}
@@ -109,8 +109,8 @@ data Why (words : List (List ℕ)) (files : Files) : Status → List ℕ → Lis
 record Gist (words : List (List ℕ)) (files : Files) (out err : Seen) (s : Status) : Type 0 where
   text : List ℕ
   message : List ℕ
-  out_has : Appends out text
-  err_has : Appends err message
+  out_has : Takes out text
+  err_has : Takes err message
   why : Why words files s text message
 
 -- an answer or a refusal has that gist
@@ -229,8 +229,8 @@ one_end words files one other =
     let y = gist words files other.faults other.faults_after other.out other.err other.status other.ends other.settled in
     let same = agree words files one.status other.status x.text y.text x.message y.message x.why y.why in (
       same.0,
-      record { text = y.text; one = subst (Appends one.out) same.1 x.out_has; both = y.out_has },
-      record { text = y.message; one = subst (Appends one.err) same.2 x.err_has; both = y.err_has },
+      record { text = y.text; one = subst (Takes one.out) same.1 x.out_has; both = y.out_has },
+      record { text = y.message; one = subst (Takes one.err) same.2 x.err_has; both = y.err_has },
     )
 
 -- ---- what is accepted

@@ -1,11 +1,11 @@
 -- A message that is written in pieces, one after another.
-use Rattle.std.proofs.Common.{◌≡◌, ℕ, ◌+◌, ◌<◌, ◌≤◌, List, ◌++◌, length, take, refl, sym, ap, ◌∙◌, arith, append_assoc, length-append}
+use Rattle.std.proofs.Common.{◌≡◌, ℕ, ◌+◌, ◌<◌, ◌≤◌, List, [], ◌++◌, length, take, refl, sym, ap, ◌∙◌, arith, append_assoc, length-append}
 use Rattle.std.specs.Prelude.{Option, Some, None}
 use Rattle.std.proofs.lemmas.List.{take-append-le}
 use Rattle.std.proofs.Math.Seq.{take-append-add}
 use Rattle.fx_io.specs.Written.{appended}
 use Rattle.fx_io.proofs.FaultCounts.{Rose-later}
-use Rattle.repair_cli.specs.Sinks.{Seen, Breaks}
+use Rattle.repair_cli.specs.Sinks.{Seen, Takes, Breaks}
 
 -- a sink with these counts and bytes
 abbrev pub sink : ℕ → ℕ → Option (List ℕ) → Option (List ℕ) → Seen
@@ -54,3 +54,14 @@ pub breaks_fourth : (f0 f1 f2 f3 f4 : ℕ) (first mid next late last : Option (L
     → mid ≡ appended first a → next ≡ appended mid b → late ≡ appended next c → Breaks (sink f3 f4 late last) d → Breaks (sink f0 f4 first last) (a ++ b ++ c ++ d)
 breaks_fourth f0 f1 f2 f3 f4 first mid next late last a b c d later more most one two three broken =
     breaks_third f0 f2 f3 f4 first next late last (a ++ b) c d (omega (arith, later, more)) most (appends_both first mid next a b one two) three broken
+
+-- ---- whole writes
+
+-- one piece was written after another
+pub takes_both : (f0 f1 f2 : ℕ) (first mid last : Option (List ℕ)) (a b : List ℕ) → Takes (sink f0 f1 first mid) a → Takes (sink f1 f2 mid last) b → Takes (sink f0 f2 first last) (a ++ b)
+takes_both f0 f1 f2 first mid last a b one two = record { steady = two.steady ∙ one.steady; added = appends_both first mid last a b one.added two.added }
+
+-- nothing was written to a sink that wasn't touched
+pub takes_none : (f : ℕ) (bytes : Option (List ℕ)) → Takes (sink f f bytes bytes) []
+takes_none f None = record { steady = refl; added = refl }
+takes_none f (Some w) = record { steady = refl; added = ap Some (sym (append-nil w)) }

@@ -5,7 +5,7 @@ use Rattle.repair_job.specs.Answers.{IsRight}
 use Rattle.repair_job.specs.Texts.{IsText}
 use Rattle.repair_job.specs.declared.answer.Answer.{Answer}
 use Rattle.repair_job.specs.declared.answer.Answer.TheVariants as answer
-use Rattle.repair_cli.specs.Sinks.{Seen, Appends, Breaks, AppendsOrBreaks}
+use Rattle.repair_cli.specs.Sinks.{Seen, Takes, Breaks, TakesOrBreaks}
 use Rattle.repair_cli.specs.Source.{Source, States, Cause}
 use Rattle.repair_cli.specs.Texts.{cannot_write}
 use Rattle.repair_cli.specs.declared.status.Status.{Status}
@@ -28,15 +28,15 @@ status_of_answer answer.Nothing = Nothing
 pub record Answered (source : Source) (out err : Seen) (answer : Answer) : Type 0 where
   pub text : List ℕ
   pub right : IsAnswer source answer text
-  pub written : Appends out text
-  pub silent : Appends err []
+  pub written : Takes out text
+  pub silent : Takes err []
 
 -- there is no answer for this cause, and its message was written
 pub record Refused (source : Source) (out err : Seen) (status : Status) : Type 0 where
   pub text : List ℕ
   pub cause : Cause source status text
-  pub silent : Appends out []
-  pub written : Appends err text
+  pub silent : Takes out []
+  pub written : Takes err text
 
 -- the write of the right answer failed, and the message of that was written, or its write failed
 -- too
@@ -45,14 +45,14 @@ pub record AnswerBreaks (source : Source) (out err : Seen) : Type 0 where
   pub text : List ℕ
   pub right : IsAnswer source answer text
   pub broken : Breaks out text
-  pub written : AppendsOrBreaks err cannot_write
+  pub written : TakesOrBreaks err cannot_write
 
 -- there is no answer for some cause, and the write of its message failed
 pub record MessageBreaks (source : Source) (out err : Seen) : Type 0 where
   pub status : Status
   pub text : List ℕ
   pub cause : Cause source status text
-  pub silent : Appends out []
+  pub silent : Takes out []
   pub broken : Breaks err text
 
 -- how a call may end, by its status

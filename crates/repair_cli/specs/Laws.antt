@@ -9,7 +9,7 @@ use Rattle.repair_job.specs.declared.answer.Answer.{Answer}
 use Rattle.repair_cli.specs.Accepted.{IsProgram, IsSuite}
 use Rattle.repair_cli.specs.Ends.{IsAnswer, Ends}
 use Rattle.repair_cli.specs.Faults.{IsFault, Refuses}
-use Rattle.repair_cli.specs.Sinks.{Seen, Appends}
+use Rattle.repair_cli.specs.Sinks.{Seen, Takes}
 use Rattle.repair_cli.specs.Source.{Files, Source, States}
 use Rattle.repair_cli.specs.SuiteFaults.{StatesNoSuite}
 use Rattle.repair_cli.specs.declared.fault.ProgramFault.{ProgramFault}
@@ -73,8 +73,8 @@ pub record Settled (words : List (List ℕ)) (files : Files) : Type 0 where
 -- two sinks had the same bytes appended, where their bytes are known
 pub record AppendAlike (sink other : Seen) : Type 0 where
   pub text : List ℕ
-  pub one : Appends sink text
-  pub both : Appends other text
+  pub one : Takes sink text
+  pub both : Takes other text
 
 -- two calls with the same words and the same files that end with an answer or a refusal end with
 -- one status, and append the same bytes to standard output and to standard error, whatever the

@@ -3,7 +3,7 @@ use Rattle.std.specs.Prelude.{◌≡◌, ◌≢◌, ◌⊎◌, ℕ, List, []}
 use Rattle.repair_job.specs.declared.answer.Answer.{Answer}
 use Rattle.repair_cli.specs.Ends.{status_of_answer}
 use Rattle.repair_cli.specs.Faults.{IsFault, Refuses}
-use Rattle.repair_cli.specs.Sinks.{Seen, Appends, Breaks, AppendsOrBreaks}
+use Rattle.repair_cli.specs.Sinks.{Seen, Takes, Breaks, TakesOrBreaks}
 use Rattle.repair_cli.specs.Source.{File, IsUnreadable, HoldsNoProgram, HoldsNoSuite}
 use Rattle.repair_cli.specs.SuiteFaults.{StatesNoSuite}
 use Rattle.repair_cli.specs.Texts.{cannot_read, cannot_write, no_memory}
@@ -45,11 +45,11 @@ GivesNoSuite file _ text = ⊥
 -- the text was written, with this status, or its write failed
 abbrev pub Writes : Seen → List ℕ → Status → Status → Type 0
 Writes err text status result =
-    ((result ≡ status) × Appends err text) ⊎ ((result ≡ WriteFault) × Breaks err text)
+    ((result ≡ status) × Takes err text) ⊎ ((result ≡ WriteFault) × Breaks err text)
 
 -- the text of an answer was written, and no message; or its write failed, and the message of that
 -- was written, or not
 abbrev pub Reports : Seen → Seen → Answer → List ℕ → Status → Type 0
 Reports out err answer text result =
-    ((result ≡ status_of_answer answer) × Appends out text × Appends err [])
-    ⊎ ((result ≡ WriteFault) × Breaks out text × AppendsOrBreaks err cannot_write)
+    ((result ≡ status_of_answer answer) × Takes out text × Takes err [])
+    ⊎ ((result ≡ WriteFault) × Breaks out text × TakesOrBreaks err cannot_write)

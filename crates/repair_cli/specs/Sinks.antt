@@ -25,6 +25,11 @@ seen faults bytes before after =
 abbrev pub Appends : Seen → List ℕ → Type 0
 Appends sink bytes = sink.bytes_after ≡ appended sink.bytes bytes
 
+-- exactly these bytes were written: no write failed, and they were appended
+pub record Takes (sink : Seen) (bytes : List ℕ) : Type 0 where
+  pub steady : sink.faults_after ≡ sink.faults
+  pub added : Appends sink bytes
+
 -- a prefix of these bytes was appended, and not all, where the sink's bytes are known
 abbrev pub AppendsPrefix : Seen → List ℕ → Type 0
 AppendsPrefix sink bytes = (n : ℕ) × (n < length bytes) × Appends sink (take n bytes)
@@ -34,6 +39,6 @@ pub record Breaks (sink : Seen) (bytes : List ℕ) : Type 0 where
   pub rose : Rose sink.faults sink.faults_after
   pub some : AppendsPrefix sink bytes
 
--- these bytes were appended, or their write failed
-abbrev pub AppendsOrBreaks : Seen → List ℕ → Type 0
-AppendsOrBreaks sink bytes = Appends sink bytes ⊎ Breaks sink bytes
+-- these bytes were written, or their write failed
+abbrev pub TakesOrBreaks : Seen → List ℕ → Type 0
+TakesOrBreaks sink bytes = Takes sink bytes ⊎ Breaks sink bytes

@@ -4,7 +4,7 @@ ghost use Rattle.repair_cli.specs.Ends.{status_of_answer};
 ghost use Rattle.repair_cli.specs.Message.{place_text, position_text, number_text, test_text, text_of};
 ghost use Rattle.repair_cli.specs.Parts.{Reports, Writes};
 ghost use Rattle.repair_cli.specs.Refusal.{status_of, message_of};
-ghost use Rattle.repair_cli.specs.Sinks.{seen, Appends, Breaks};
+ghost use Rattle.repair_cli.specs.Sinks.{seen, Takes, Breaks};
 
 use crate::answer::Reply;
 use crate::refusal::{Message, Place, Refusal};
@@ -49,7 +49,7 @@ fn write_message<S: Sink>(sink: &mut S, message: Message) -> Result<(), Failed>
     ensures faults { S.faults sink.old ≤ S.faults sink.new }
     ensures written { let wrote = seen S.faults S.written sink.old sink.new in
         let text = text_of message.entry in
-        MatchResult result (λ _. Appends wrote text) (λ _. Breaks wrote text) }
+        MatchResult result (λ _. Takes wrote text) (λ _. Breaks wrote text) }
     ensures room { length (text_of message.entry) ≤ S.room sink.old → IsOk result }
 {
     write_both(sink, message.before, message.name)?;
@@ -65,7 +65,7 @@ fn write_place<S: Sink>(sink: &mut S, at: Option<Place>) -> Result<(), Failed>
     ensures faults { S.faults sink.old ≤ S.faults sink.new }
     ensures written { let wrote = seen S.faults S.written sink.old sink.new in
         let text = place_text at in
-        MatchResult result (λ _. Appends wrote text) (λ _. Breaks wrote text) }
+        MatchResult result (λ _. Takes wrote text) (λ _. Breaks wrote text) }
     ensures room { length (place_text at) ≤ S.room sink.old →
         IsOk result × (S.room sink.new + length (place_text at) ≡ S.room sink.old) }
 {
@@ -81,7 +81,7 @@ fn write_position<S: Sink>(sink: &mut S, line: usize, column: usize) -> Result<(
     ensures faults { S.faults sink.old ≤ S.faults sink.new }
     ensures written { let wrote = seen S.faults S.written sink.old sink.new in
         let text = position_text line column in
-        MatchResult result (λ _. Appends wrote text) (λ _. Breaks wrote text) }
+        MatchResult result (λ _. Takes wrote text) (λ _. Breaks wrote text) }
     ensures room { let text = position_text line column in length text ≤ S.room sink.old →
         IsOk result × (S.room sink.new + length text ≡ S.room sink.old) }
 {
@@ -95,7 +95,7 @@ fn write_number<S: Sink>(sink: &mut S, n: usize) -> Result<(), Failed>
     ensures faults { S.faults sink.old ≤ S.faults sink.new }
     ensures written { let wrote = seen S.faults S.written sink.old sink.new in
         let text = number_text n in
-        MatchResult result (λ _. Appends wrote text) (λ _. Breaks wrote text) }
+        MatchResult result (λ _. Takes wrote text) (λ _. Breaks wrote text) }
     ensures room { length (number_text n) ≤ S.room sink.old →
         IsOk result × (S.room sink.new + length (number_text n) ≡ S.room sink.old) }
 {
@@ -107,7 +107,7 @@ fn write_number<S: Sink>(sink: &mut S, n: usize) -> Result<(), Failed>
 fn write_test<S: Sink>(sink: &mut S, n: u32) -> Result<(), Failed>
     ensures faults { S.faults sink.old ≤ S.faults sink.new }
     ensures written { let wrote = seen S.faults S.written sink.old sink.new in
-        MatchResult result (λ _. Appends wrote (test_text n)) (λ _. Breaks wrote (test_text n)) }
+        MatchResult result (λ _. Takes wrote (test_text n)) (λ _. Breaks wrote (test_text n)) }
     ensures room { length (test_text n) ≤ S.room sink.old →
         IsOk result × (S.room sink.new + length (test_text n) ≡ S.room sink.old) }
 {
@@ -120,7 +120,7 @@ fn write_both<S: Sink>(sink: &mut S, first: &[u8], second: &[u8]) -> Result<(), 
     ensures faults { S.faults sink.old ≤ S.faults sink.new }
     ensures written { let wrote = seen S.faults S.written sink.old sink.new in
         let text = first.now ++ second.now in
-        MatchResult result (λ _. Appends wrote text) (λ _. Breaks wrote text) }
+        MatchResult result (λ _. Takes wrote text) (λ _. Breaks wrote text) }
     ensures room { length (first.now ++ second.now) ≤ S.room sink.old →
         IsOk result × (S.room sink.new + length (first.now ++ second.now) ≡ S.room sink.old) }
 {
