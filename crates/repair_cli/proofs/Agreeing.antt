@@ -18,7 +18,7 @@ use Rattle.repair_job.proofs.OneAnswer.{one_right, one_text}
 use Rattle.repair_cli.specs.Accepted.{IsProgram, IsSuite}
 use Rattle.repair_cli.specs.Ends.{Ends, IsAnswer, status_of_answer}
 use Rattle.repair_cli.specs.Faults.{Refuses}
-use Rattle.repair_cli.specs.Laws.{given, OneSuiteRefusal, NeverBothOfSuite, OneReply, OneEnd, IsSettled, AcceptedAreAnswered, IsAnswered}
+use Rattle.repair_cli.specs.Laws.{given, OneSuite, OneSuiteFault, OneSuiteRefusal, NeverBothOfSuite, OneReply, OneEnd, IsSettled, AcceptedAreAnswered, IsAnswered}
 use Rattle.repair_cli.specs.Sinks.{Seen, Takes}
 use Rattle.repair_cli.specs.Source.{Files, File, States, Cause, IsUnreadable, HoldsSomeProgram, HoldsNoProgram, HoldsSuite, HoldsNoSuite}
 use Rattle.repair_cli.specs.SuiteFaults.{IsSuiteFault, StatesNoSuite, suite_message}
@@ -50,9 +50,17 @@ same_job j k s p t l m h =
 one_content : (files : Files) (a b : List ℕ) (x y : List ℕ) → a ≡ b → file_named files a ≡ Some x → file_named files b ≡ Some y → x ≡ y
 one_content files a b x y e p q = same_Some x y (sym p ∙ ap (file_named files) e ∙ q)
 
--- bytes state one suite at most
+-- what a result gives is one thing at most
 same_suite : (r : Result Stated SuiteFault) (a b : Stated) → r ≡ Ok a → r ≡ Ok b → a ≡ b
 same_suite r a b x y = cc
+
+-- bytes state one list of tests and one limit at most
+pub one_suite : OneSuite
+one_suite bytes tests tests' limit limit' a b =
+    let one : Stated = record { tests = tests; limit = limit } in
+    let other : Stated = record { tests = tests'; limit = limit' } in
+    let same : one ≡ other = same_suite (stated bytes) one other a.states b.states in
+    (ap (λ (s : Stated). s.tests) same, ap (λ (s : Stated). s.limit) same)
 
 -- a suite that is stated isn't refused
 never_refused : (r : Result Stated SuiteFault) (fault : SuiteFault) (a : Stated) → r ≡ Err fault → r ≡ Ok a → ⊥
@@ -71,11 +79,9 @@ one_job words files m n m' n' a b t u x y =
     one_program y.job.source x.job.program y.job.program (subst (λ w. IsProgram w x.job.program) source i.program.1) j.program.1 in
     let lists : i.suite.0 ≡ j.suite.0 =
     one_content files i.asked.suite j.asked.suite i.suite.0 j.suite.0 (ap (λ (k : Asked). k.suite) asked) i.suite.1 j.suite.1 in
-    let both : Stated = record { tests = x.job.tests; limit = i.limit } in
-    let other : Stated = record { tests = y.job.tests; limit = j.limit } in
-    let same : both ≡ other = same_suite (stated i.suite.0) both other i.suite.2.states (ap stated lists ∙ j.suite.2.states) in
-    let tests : x.job.tests ≡ y.job.tests = ap (λ (s : Stated). s.tests) same in
-    let own : i.limit ≡ j.limit = ap (λ (s : Stated). s.limit) same in
+    let same = one_suite j.suite.0 x.job.tests y.job.tests i.limit j.limit (subst (λ w. IsSuite w x.job.tests i.limit) lists i.suite.2) j.suite.2 in
+    let tests : x.job.tests ≡ y.job.tests = same.0 in
+    let own : i.limit ≡ j.limit = same.1 in
     let limit : x.job.limit ≡ y.job.limit =
     i.limit_is ∙ ap (λ l. unwrap_or i.asked.options.limit l) own ∙ ap (λ (k : Asked). unwrap_or k.options.limit j.limit) asked ∙ sym j.limit_is in
     let most : x.job.most_patches ≡ y.job.most_patches = i.patches_are ∙ ap (λ (k : Asked). k.options.patches) asked ∙ sym j.patches_are in
@@ -158,7 +164,7 @@ one_stated : (r : Result Stated SuiteFault) (f g : SuiteFault) → r ≡ Err f �
 one_stated r f g x y = cc
 
 -- bytes have one first refusal at most
-one_suite_fault : (bytes : List ℕ) (f g : TestsFault) → IsSuiteFault bytes f → IsSuiteFault bytes g → f ≡ g
+pub one_suite_fault : OneSuiteFault
 one_suite_fault bytes _ _ (IsSuiteFault.too_long a) (IsSuiteFault.too_long b) = refl
 one_suite_fault bytes _ _ (IsSuiteFault.too_long a) (IsSuiteFault.of_suite g s y) = absurd (omega (arith, a, s))
 one_suite_fault bytes _ _ (IsSuiteFault.of_suite f s x) (IsSuiteFault.too_long b) = absurd (omega (arith, b, s))

@@ -1,6 +1,7 @@
 pub mod Accepting
 pub mod Agreeing
 pub mod Commands
+pub mod Judged
 pub mod Lengths
 pub mod Patching
 pub mod Pieces

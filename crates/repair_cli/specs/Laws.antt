@@ -1,9 +1,10 @@
--- That there is one right answer at most, or one refusal; that what a call answers is settled by
--- its words and files; and that what is accepted is answered.
-use Rattle.std.specs.Prelude.{◌≡◌, ℕ, List, Some}
+-- That there is one right answer at most, or one refusal; that all bytes are accepted or refused;
+-- that what a call answers is settled by its words and files; and that what is accepted is answered.
+use Rattle.std.specs.Prelude.{◌≡◌, ◌≢◌, ◌⊎◌, ℕ, List, Some}
 use Rattle.fx_io.specs.Faults.{Rose}
 use Rattle.c_tree.specs.Tree.{Outer}
 use Rattle.c_stdio.specs.declared.test.Test.{Test}
+use Rattle.test_suite.specs.declared.fault.SuiteFault.TheVariants as refusal
 use Rattle.repair_job.specs.Job.{Job}
 use Rattle.repair_job.specs.declared.answer.Answer.{Answer}
 use Rattle.repair_cli.specs.Accepted.{IsProgram, IsSuite}
@@ -11,8 +12,11 @@ use Rattle.repair_cli.specs.Ends.{IsAnswer, Ends}
 use Rattle.repair_cli.specs.Faults.{IsFault, Refuses}
 use Rattle.repair_cli.specs.Sinks.{Seen, Takes}
 use Rattle.repair_cli.specs.Source.{Files, Source, States}
-use Rattle.repair_cli.specs.SuiteFaults.{StatesNoSuite}
+use Rattle.repair_cli.specs.SuiteFaults.{IsSuiteFault, StatesNoSuite}
 use Rattle.repair_cli.specs.declared.fault.ProgramFault.{ProgramFault}
+use Rattle.repair_cli.specs.declared.fault.ProgramFault.TheVariants as fault
+use Rattle.repair_cli.specs.declared.fault.TestsFault.{TestsFault}
+use Rattle.repair_cli.specs.declared.fault.TestsFault.TheVariants.{Suite}
 use Rattle.repair_cli.specs.declared.status.Status.{Status}
 use Rattle.repair_cli.specs.declared.status.Status.TheVariants.{Patched, Nothing, Sound, ReadFault, WriteFault, NoMemory}
 
@@ -32,6 +36,16 @@ OneRefusal = (name bytes t u : List ℕ) → Refuses name bytes t → Refuses na
 abbrev pub NeverBoth : Type 0
 NeverBoth = (name bytes t : List ℕ) (p : List Outer) → IsProgram bytes p → Refuses name bytes t → ⊥
 
+-- bytes state one list of tests and one limit at most
+abbrev pub OneSuite : Type 0
+OneSuite = (bytes : List ℕ) (tests tests' : List Test) (limit limit' : ℕ)
+    → IsSuite bytes tests limit → IsSuite bytes tests' limit' → (tests ≡ tests') × (limit ≡ limit')
+
+-- bytes have one first refusal as a suite at most
+abbrev pub OneSuiteFault : Type 0
+OneSuiteFault = (bytes : List ℕ) (f g : TestsFault)
+    → IsSuiteFault bytes f → IsSuiteFault bytes g → f ≡ g
+
 -- a suite is refused with one message at most
 abbrev pub OneSuiteRefusal : Type 0
 OneSuiteRefusal = (name bytes t u : List ℕ)
@@ -41,6 +55,32 @@ OneSuiteRefusal = (name bytes t u : List ℕ)
 abbrev pub NeverBothOfSuite : Type 0
 NeverBothOfSuite = (name bytes t : List ℕ) (tests : List Test) (limit : ℕ)
     → IsSuite bytes tests limit → StatesNoSuite name bytes t → ⊥
+
+-- a source states some program
+abbrev pub StatesProgram : List ℕ → Type 0
+StatesProgram bytes = (program : List Outer) × IsProgram bytes program
+
+-- a source has a first fault, which isn't that memory ran out
+abbrev pub HasFault : List ℕ → Type 0
+HasFault bytes = (f : ProgramFault) × (f ≢ fault.NoMemory) × IsFault bytes f
+
+-- each source, whatever its bytes and however long, states a program or has a first fault, which
+-- isn't that memory ran out
+abbrev pub EverySourceIsJudged : Type 0
+EverySourceIsJudged = (bytes : List ℕ) → StatesProgram bytes ⊎ HasFault bytes
+
+-- bytes state some tests and some limit
+abbrev pub StatesSuite : List ℕ → Type 0
+StatesSuite bytes = (tests : List Test) × (limit : ℕ) × IsSuite bytes tests limit
+
+-- bytes have a first refusal as a suite, which isn't that memory ran out
+abbrev pub HasSuiteFault : List ℕ → Type 0
+HasSuiteFault bytes = (f : TestsFault) × (f ≢ Suite refusal.NoMemory) × IsSuiteFault bytes f
+
+-- all bytes, however many, state tests and a limit or have a first refusal as a suite, which isn't
+-- that memory ran out
+abbrev pub EverySuiteIsJudged : Type 0
+EverySuiteIsJudged = (bytes : List ℕ) → StatesSuite bytes ⊎ HasSuiteFault bytes
 
 -- these words and files, which are known; the failures don't matter
 abbrev pub given : List (List ℕ) → Files → ℕ → ℕ → Source

@@ -14,7 +14,7 @@ returns-in_err-write_both-clause-written g c =
 pub returns-in_err-write_place-clause-written : goal.returns-in_err-write_place-clause-written
 returns-in_err-write_place-clause-written g c =
     let m = c.args.message in
-    let one = breaks_after _ _ _ _ _ _ _ _ c.write_both.ensures.faults c.in_ok-write_both.ensures.written c.in_err-write_place.ensures.written in
+    let one = breaks_after _ _ _ _ _ _ _ _ c.write_both.ensures.faults c.in_ok-write_both.ensures.written.added c.in_err-write_place.ensures.written in
     let two = breaks_longer _ _ _ _ _ (m.between.now ++ m.words.now) one in
     let broken = breaks_longer _ _ _ _ _ m.end.now two in
     search (rules, broken)
@@ -22,7 +22,7 @@ returns-in_err-write_place-clause-written g c =
 pub returns-in_err-write_both-2-clause-written : goal.returns-in_err-write_both-2-clause-written
 returns-in_err-write_both-2-clause-written g c =
     let m = c.args.message in
-    let one = breaks_third _ _ _ _ _ _ _ _ _ _ _ c.write_both.ensures.faults c.write_place.ensures.faults c.in_ok-write_both.ensures.written c.in_ok-write_place.ensures.written c.in_err-write_both-2.ensures.written in
+    let one = breaks_third _ _ _ _ _ _ _ _ _ _ _ c.write_both.ensures.faults c.write_place.ensures.faults c.in_ok-write_both.ensures.written.added c.in_ok-write_place.ensures.written.added c.in_err-write_both-2.ensures.written in
     let broken = breaks_longer _ _ _ _ _ m.end.now one in
     search (rules, broken)
 
@@ -30,5 +30,5 @@ pub returns-in_err-write_whole-clause-written : goal.returns-in_err-write_whole-
 returns-in_err-write_whole-clause-written g c =
     let last = c.in_err-write_whole.ensures in
     let broken = breaks_fourth _ _ _ _ _ _ _ _ _ _ _ _ _ _ c.write_both.ensures.faults c.write_place.ensures.faults c.write_both-2.ensures.faults
-    c.in_ok-write_both.ensures.written c.in_ok-write_place.ensures.written c.in_ok-write_both-2.ensures.written (record { rose = last.cause; some = last.failed }) in
+    c.in_ok-write_both.ensures.written.added c.in_ok-write_place.ensures.written.added c.in_ok-write_both-2.ensures.written.added (record { rose = last.cause; some = last.failed }) in
     search (rules, broken)

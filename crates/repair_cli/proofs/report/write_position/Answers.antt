@@ -10,5 +10,5 @@ returns-in_err-write_number-clause-written g c =
 
 pub returns-in_err-write_number-2-clause-written : goal.returns-in_err-write_number-2-clause-written
 returns-in_err-write_number-2-clause-written g c =
-    let broken = breaks_after _ _ _ _ _ _ _ _ c.write_number.ensures.faults c.in_ok-write_number.ensures.written c.in_err-write_number-2.ensures.written in
+    let broken = breaks_after _ _ _ _ _ _ _ _ c.write_number.ensures.faults c.in_ok-write_number.ensures.written.added c.in_err-write_number-2.ensures.written in
     search (rules, broken)
