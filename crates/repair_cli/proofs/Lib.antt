@@ -3,6 +3,7 @@ pub mod Agreeing
 pub mod Commands
 pub mod Judged
 pub mod Lengths
+pub mod Passing
 pub mod Patching
 pub mod Pieces
 pub mod Reading

@@ -7,9 +7,12 @@ use Rattle.c_stdio.specs.declared.test.Test.{Test}
 use Rattle.test_suite.specs.declared.fault.SuiteFault.TheVariants as refusal
 use Rattle.repair_job.specs.Job.{Job}
 use Rattle.repair_job.specs.declared.answer.Answer.{Answer}
+use Rattle.repair_job.specs.declared.answer.Answer.TheVariants as answer
+use Rattle.repair_job.specs.declared.answer.Shown.TheVariants as shown
 use Rattle.repair_cli.specs.Accepted.{IsProgram, IsSuite}
 use Rattle.repair_cli.specs.Ends.{IsAnswer, Ends}
 use Rattle.repair_cli.specs.Faults.{IsFault, Refuses}
+use Rattle.repair_cli.specs.ReadAgain.{ReadsAndPasses}
 use Rattle.repair_cli.specs.Sinks.{Seen, Takes}
 use Rattle.repair_cli.specs.Source.{Files, Source, States}
 use Rattle.repair_cli.specs.SuiteFaults.{IsSuiteFault, StatesNoSuite}
@@ -139,3 +142,9 @@ AcceptedAreAnswered = (words : List (List ℕ)) (files : Files) (m n : ℕ) (job
     → (out err : Seen) (status : Status) → Ends (given words files m n) out err status
     → ¬ Rose m n → ¬ Rose out.faults out.faults_after → ¬ Rose err.faults err.faults_after
     → IsAnswered status
+
+-- where a patched source is right to write, it passes every test of the job, when it is read again
+abbrev pub PatchedSourcesPass : Type 0
+PatchedSourcesPass = (source : Source) (rank : ℕ) (text : List ℕ)
+    → (reply : IsAnswer source (answer.Patch rank) text) → reply.job.shown ≡ shown.Source
+    → ReadsAndPasses reply.job text

@@ -1,7 +1,10 @@
 //! Laws of the answers, each the contract of a function that does nothing.
 ghost use Rattle.repair_cli.specs.Laws.{OneProgram, OneFault, OneRefusal, NeverBoth, OneReply, OneEnd};
 ghost use Rattle.repair_cli.specs.Laws.{OneSuite, OneSuiteFault, OneSuiteRefusal, NeverBothOfSuite};
-ghost use Rattle.repair_cli.specs.Laws.{EverySourceIsJudged, EverySuiteIsJudged, AcceptedAreAnswered};
+ghost use Rattle.repair_cli.specs.Laws.{EverySourceIsJudged, EverySuiteIsJudged, AcceptedAreAnswered, PatchedSourcesPass};
+
+use bare_runs::runs_alike;
+use patch_reread::patches_read_again;
 
 /// A source states one program at most, or has one first fault at most and so one message, and
 /// never both; so it is with a suite, which states its tests with their limit. Where the files are
@@ -38,3 +41,13 @@ pub fn one_end()
 pub fn accepted_are_answered()
     ensures { AcceptedAreAnswered }
 {}
+
+/// Where a patched source is right to write, it passes: it has tokens, which derive a program
+/// without a fault of names and kinds, and with its names resolved that program passes every test
+/// of the job.
+pub fn patched_sources_pass()
+    ensures { PatchedSourcesPass }
+{
+    patches_read_again();
+    runs_alike();
+}
