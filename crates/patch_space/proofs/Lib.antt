@@ -7,6 +7,7 @@ mod NewTrees
 mod WeakerThere
 mod EditedFaults
 mod EditedSlots
+mod EditsApplied
 mod CandidatesSee
 mod VisibleThere
 mod CandidateChecked

@@ -1,6 +1,6 @@
 //! The laws of patched programs, each as the contract of a function.
 
-ghost use Rattle.patch_space.specs.Laws.{PatchedIsChecked, PatchesChange};
+ghost use Rattle.patch_space.specs.Laws.{PatchedIsChecked, PatchesChange, EditedIsApplied, TestIsApplied};
 
 use c_location::each_names_one_place;
 use schemas::candidates_can_be_made;
@@ -22,3 +22,10 @@ pub fn patches_change()
 {
     candidates_can_be_made();
 }
+
+/// What an edit makes at a part, by which candidates are told apart, is what a patch with it puts there: the new
+/// expression in the place of the old one, and the test of the `if` round a statement.
+pub fn edits_are_applied()
+    ensures expression { EditedIsApplied }
+    ensures test { TestIsApplied }
+{}

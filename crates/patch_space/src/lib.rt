@@ -10,6 +10,6 @@ mod space;
 
 pub use change::{apply, changed, changed_at};
 pub use fault::SpaceFault;
-pub use laws::{patched_is_checked, patches_change};
+pub use laws::{edits_are_applied, patched_is_checked, patches_change};
 pub use patch::Patch;
 pub use space::Space;

@@ -18,8 +18,6 @@ mod tests;
 mod tried;
 mod words;
 
-pub use laws::{
-    accepted_are_answered, all_are_judged, one_answer, one_end, patched_sources_pass,
-};
+pub use laws::{accepted_are_answered, all_are_judged, one_answer, one_end, patched_sources_pass};
 pub use run::run_alone;
 pub use status::Status;
