@@ -20,7 +20,7 @@ use std::alloc::Global;
 /// joined to a bound, or guarded by one. Where the edit can't be made there, the source as it is.
 ///
 /// Where the source states the program, and the edit is a candidate at the location, the text is
-/// read again as the edited program, but for spans, slots and the spelling of constants; its length
+/// read again as the edited program, but for spans and the spelling of constants; its length
 /// and its nesting may be more than a source's may.
 ///
 /// # Errors

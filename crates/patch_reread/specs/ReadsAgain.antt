@@ -14,7 +14,7 @@ use Rattle.bare_laws.specs.Laws.{ChecksAs}
 use Rattle.patch_reread.specs.Texts.{patched_text}
 
 -- The text is read as the program. It has tokens, which derive a program without a fault of names
--- and kinds; resolved, that is the same program but for spans, slots and the spelling of constants.
+-- and kinds; resolved, that is the same program but for spans and the spelling of constants.
 pub record ReadsAs (text : Bytes) (p : List Outer) : Type 0 where
   pub tokens : Tokens
   pub room : ℕ

@@ -12,7 +12,7 @@ use printed_tokens::{pure_prints, words_of_the_source, zero_and_one};
 
 /// The text that each patch of a program makes of the program's source is read as the program that
 /// the patch makes of it. It has tokens, which derive a program without a fault of names and kinds;
-/// resolved, that is the patched program, but for spans, slots and the spelling of constants.
+/// resolved, that is the patched program, but for spans and the spelling of constants.
 pub fn patches_read_again()
     ensures { PatchesReadAgain }
 {

@@ -22,8 +22,9 @@ use std::alloc::Global;
 ///
 /// The answer goes to `out`: the patched source or with `--edit` the line of the patch, or a line
 /// that there is nothing to repair or that no patch repairs it. The patched source, read again, is
-/// the patched program. Where there is no answer a message goes to `err`. The status says which:
-/// its number is the exit status. After a failed write nothing more is written to that sink.
+/// the patched program, and passes every test. Where there is no answer a message goes to `err`. The
+/// status says which: its number is the exit status. After a failed write nothing more is written to
+/// that sink.
 pub fn run_alone<F: Files, O: Sink, E: Sink>(
     alloc: Global,
     words: &[String],
