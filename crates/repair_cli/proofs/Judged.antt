@@ -47,31 +47,31 @@ use Rattle.repair_cli.specs.declared.fault.TestsFault.TheVariants as tests
 -- ---- a source
 
 -- the first of these faults, as it is reported
-record IsTold (fs : List Fault) : Type 0 where
-  told : TypeFault
-  some : told ≢ kinds.NoMemory
-  causes : CausedBy told fs
+record IsReported (fs : List Fault) : Type 0 where
+  reported : TypeFault
+  some : reported ≢ kinds.NoMemory
+  causes : CausedBy reported fs
 
 -- the first of these faults, by its kind and its place, can be reported
-told_at : (fs : List Fault) (k : FaultKind) (place : ℕ) → IsFirstAt fs k place → IsTold fs
-told_at fs kind.Unknown n x = record { told = kinds.Unknown n; some = λ e. cc; causes = x }
-told_at fs kind.Twice n x = record { told = kinds.Twice n; some = λ e. cc; causes = x }
-told_at fs kind.WrongKind n x = record { told = kinds.WrongKind n; some = λ e. cc; causes = x }
-told_at fs kind.WrongCount n x = record { told = kinds.WrongCount n; some = λ e. cc; causes = x }
-told_at fs kind.NotPlace n x = record { told = kinds.NotPlace n; some = λ e. cc; causes = x }
-told_at fs kind.NotConstant n x = record { told = kinds.NotConstant n; some = λ e. cc; causes = x }
-told_at fs kind.BadArrayLength n x = record { told = kinds.BadArrayLength n; some = λ e. cc; causes = x }
-told_at fs kind.LoopOnly n x = record { told = kinds.LoopOnly n; some = λ e. cc; causes = x }
-told_at fs kind.BadFormat n x = record { told = kinds.BadFormat n; some = λ e. cc; causes = x }
-told_at fs kind.NoMain n x = record { told = kinds.NoMain n; some = λ e. cc; causes = x }
+reported_at : (fs : List Fault) (k : FaultKind) (place : ℕ) → IsFirstAt fs k place → IsReported fs
+reported_at fs kind.Unknown n x = record { reported = kinds.Unknown n; some = λ e. cc; causes = x }
+reported_at fs kind.Twice n x = record { reported = kinds.Twice n; some = λ e. cc; causes = x }
+reported_at fs kind.WrongKind n x = record { reported = kinds.WrongKind n; some = λ e. cc; causes = x }
+reported_at fs kind.WrongCount n x = record { reported = kinds.WrongCount n; some = λ e. cc; causes = x }
+reported_at fs kind.NotPlace n x = record { reported = kinds.NotPlace n; some = λ e. cc; causes = x }
+reported_at fs kind.NotConstant n x = record { reported = kinds.NotConstant n; some = λ e. cc; causes = x }
+reported_at fs kind.BadArrayLength n x = record { reported = kinds.BadArrayLength n; some = λ e. cc; causes = x }
+reported_at fs kind.LoopOnly n x = record { reported = kinds.LoopOnly n; some = λ e. cc; causes = x }
+reported_at fs kind.BadFormat n x = record { reported = kinds.BadFormat n; some = λ e. cc; causes = x }
+reported_at fs kind.NoMain n x = record { reported = kinds.NoMain n; some = λ e. cc; causes = x }
 
 -- a list of faults is empty, or its first fault can be reported
-none_or_told : (fs : List Fault) → (fs ≡ []) ⊎ IsTold fs
-none_or_told fs = by_least (least fs) refl
+none_or_reported : (fs : List Fault) → (fs ≡ []) ⊎ IsReported fs
+none_or_reported fs = by_least (least fs) refl
   where
-    by_least : (o : Option Fault) → least fs ≡ o → (fs ≡ []) ⊎ IsTold fs
+    by_least : (o : Option Fault) → least fs ≡ o → (fs ≡ []) ⊎ IsReported fs
     by_least None is = inl (least_none fs is)
-    by_least (Some f) is = inr (told_at fs f.kind f.place (least_first fs f is))
+    by_least (Some f) is = inr (reported_at fs f.kind f.place (least_first fs f is))
 
 -- a source that has a well-typed tree, which has few locations or many
 by_size : (bytes : List ℕ) (tree : List Outer) → IsRead bytes tree → IsWellTyped (length bytes) tree
@@ -92,12 +92,12 @@ by_size bytes tree read typed (inr many) =
 
 -- a source that has a tree
 of_tree : (bytes : List ℕ) (tree : List Outer) → IsRead bytes tree → StatesProgram bytes ⊎ HasFault bytes
-of_tree bytes tree read = by_faults (none_or_told (program_faults tree (length bytes)))
+of_tree bytes tree read = by_faults (none_or_reported (program_faults tree (length bytes)))
   where
-    by_faults : (program_faults tree (length bytes) ≡ []) ⊎ IsTold (program_faults tree (length bytes))
+    by_faults : (program_faults tree (length bytes) ≡ []) ⊎ IsReported (program_faults tree (length bytes))
         → StatesProgram bytes ⊎ HasFault bytes
     by_faults (inl typed) = by_size bytes tree read typed (larger (length (locations (resolved tree))) 4096)
-    by_faults (inr t) = inr (Kinds t.told, λ e. cc, IsFault.of_kinds t.told tree t.some read t.causes)
+    by_faults (inr t) = inr (Kinds t.reported, λ e. cc, IsFault.of_kinds t.reported tree t.some read t.causes)
 
 -- a source that has tokens, by their verdict
 by_verdict : (bytes : List ℕ) (ts : Tokens) (v : Verdict) → IsCut bytes ts → Judged max_nesting ts v
