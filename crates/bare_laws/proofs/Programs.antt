@@ -16,43 +16,18 @@ use Rattle.c_types.specs.Evidence.{IsChecked}
 use Rattle.c_types.specs.Laws.{ResolvingKeepsBare, ResolvedIsChecked}
 use Rattle.c_types.specs.Least.{fault_if}
 use Rattle.c_types.specs.Library.{library}
-use Rattle.c_types.specs.Programs.{is_defined, param_type, param_declaration, function_declaration, params_declared, params_faults, same_result, same_params, redeclared_faults, name_faults, definition_faults, function_faults, outers_faults, has_no_params, is_main, has_main, program_faults}
+use Rattle.c_types.specs.Programs.{param_type, param_declaration, function_declaration, params_declared, params_faults, same_result, same_params, redeclared_faults, name_faults, definition_faults, function_faults, outers_faults, has_no_params, is_main, has_main, program_faults}
 use Rattle.c_types.specs.Scopes.{is_declared}
 use Rattle.c_types.specs.Slots.{resolved}
 use Rattle.c_types.specs.Statements.{declared}
 use Rattle.bare_laws.specs.Laws.{kinds_of, ChecksAs, FaultlessAlike}
+use Rattle.bare_laws.proofs.Declared.{types-same, body_there-same, function_declaration-same}
 use Rattle.bare_laws.proofs.Resolved.{plain-alike}
 use Rattle.bare_laws.proofs.SameKinds.{SameKinds, none, one, test, both, but_equal}
 use Rattle.bare_laws.proofs.Scopes.{plain, slotless, declared-same}
 use Rattle.bare_laws.proofs.Statements.{declared_all-same, variables-alike, body-alike}
 
 -- ---- functions
-
--- parameters have the same types
-types-same : (ps : List Param) → map param_type (map bare_param ps) ≡ map param_type ps
-types-same [] = refl
-types-same (p ∷ ps) = ap (λ ts. param_type p ∷ ts) (types-same ps)
-
-body_there-same : (b : Option Body) → is_some (bare_maybe b) ≡ is_some b
-body_there-same None = refl
-body_there-same (Some body) = refl
-
-defined-same : (file : List Outer) (w : List ℕ)
-    → is_defined (bare_program file) w ≡ is_defined file w
-defined-same [] w = refl
-defined-same (outer_vars ty vs ∷ rest) w = defined-same rest w
-defined-same (outer_func f ∷ rest) w =
-    ap₂ (λ a b. (a && bytes_eq f.word w) || b) (body_there-same f.body) (defined-same rest w)
-
--- the declaration of a function has no slot
-function_declaration-same : (file : List Outer) (f : Function)
-    → function_declaration (bare_program file) (bare_function f) ≡ function_declaration file f
-function_declaration-same file f =
-    λ i. record {
-      word = f.word;
-      entity = FunctionEntity f.ret (types-same f.params i) (body_there-same f.body i)
-          (is_declared library f.word || defined-same file f.word i);
-    }
 
 params_declared-same : (ps : List Param) (here : List Declaration)
     → params_declared (map bare_param ps) (map slotless here)

@@ -1,22 +1,21 @@
 -- Resolving looks at no span, no slot and no spelling of a constant. So checked programs that are
 -- the same but for these have the same slots.
-use Rattle.std.proofs.Common.{◌≡◌, ℕ, suc, ◌+◌, ◌||◌, ◌&&◌, List, [], ◌∷◌, ◌++◌, map, length, Option, Some, None, is_some, refl, sym, ap, ap₂, ◌∙◌}
-use Rattle.std.specs.Str.{bytes_eq}
+use Rattle.std.proofs.Common.{◌≡◌, ℕ, suc, ◌+◌, List, [], ◌∷◌, ◌++◌, map, length, Option, Some, None, refl, sym, ap, ap₂, ◌∙◌}
 use Rattle.std.proofs.lemmas.List.{length-map}
 use Rattle.c_tree.specs.declared.program.Param.{Param}
 use Rattle.c_tree.specs.declared.stmt.Slot.{Slot}
 use Rattle.c_tree.specs.declared.stmt.Ty.{Ty}
 use Rattle.c_tree.specs.Tree.{Tree, constant, name, index, call, unary, cast, binary, choice, assign, bump, comma, hole, hole_after, Args, no_args, value, format, address, Initial, bare_start, one_start, list_start, Variable, First, no_first, first_act, first_vars, Code, empty, act, block, if_then, if_else, while, do_while, for, give, break, continue, Body, done, next, vars, Function, Outer, outer_vars, outer_func, no_span, bare, bare_args, bare_option, bare_initial, bare_variable, bare_first, bare_code, bare_body, bare_param, bare_maybe, bare_function, bare_program}
 use Rattle.c_types.specs.declared.scope.Declaration.{Declaration}
-use Rattle.c_types.specs.declared.scope.Entity.TheVariants.{Function as FunctionEntity}
 use Rattle.c_types.specs.declared.scope.Storage.TheVariants.{Static, Automatic}
 use Rattle.c_types.specs.Evidence.{IsChecked}
 use Rattle.c_types.specs.Library.{library}
-use Rattle.c_types.specs.Programs.{is_defined, param_type, param_declaration, params_declared, function_declaration}
-use Rattle.c_types.specs.Scopes.{denoted, is_declared}
+use Rattle.c_types.specs.Programs.{param_declaration, params_declared, function_declaration}
+use Rattle.c_types.specs.Scopes.{denoted}
 use Rattle.c_types.specs.Slots.{first_count, code_count, body_count, slot_in, entity_slot, numbered_variable, numbered, numbered_param, numbered_params, resolved_tree, resolved_args, resolved_option, resolved_initial, resolved_variable, resolved_variables, numbered_first, resolved_first, resolved_code, resolved_body, resolved_definition, resolved_function, resolved_outers, resolved}
 use Rattle.c_types.specs.Statements.{variable_declaration, declared, first_declared}
 use Rattle.bare_laws.specs.Plain.{plain, plain_args, plain_option, plain_initial, plain_variable, plain_first, plain_code, plain_body, plain_param, plain_maybe, plain_function, plain_program}
+use Rattle.bare_laws.proofs.Declared.{function_declaration-same}
 
 -- ---- expressions
 
@@ -240,32 +239,6 @@ function-same around f =
     }
 
 -- ---- what stands at file scope
-
-types-same : (ps : List Param) → map param_type (map bare_param ps) ≡ map param_type ps
-types-same [] = refl
-types-same (p ∷ ps) = ap (λ ts. param_type p ∷ ts) (types-same ps)
-
-body_there-same : (b : Option Body) → is_some (bare_maybe b) ≡ is_some b
-body_there-same None = refl
-body_there-same (Some body) = refl
-
--- the same functions are defined
-defined-same : (file : List Outer) (w : List ℕ)
-    → is_defined (bare_program file) w ≡ is_defined file w
-defined-same [] w = refl
-defined-same (outer_vars ty vs ∷ rest) w = defined-same rest w
-defined-same (outer_func f ∷ rest) w =
-    ap₂ (λ a b. (a && bytes_eq f.word w) || b) (body_there-same f.body) (defined-same rest w)
-
--- a function makes the same declaration
-function_declaration-same : (file : List Outer) (f : Function)
-    → function_declaration (bare_program file) (bare_function f) ≡ function_declaration file f
-function_declaration-same file f =
-    λ i. record {
-      word = f.word;
-      entity = FunctionEntity f.ret (types-same f.params i) (body_there-same f.body i)
-          (is_declared library f.word || defined-same file f.word i);
-    }
 
 module _ (file : List Outer) where
   -- what stands at file scope, resolved
