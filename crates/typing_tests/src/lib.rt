@@ -22,4 +22,6 @@ mod source;
 #[cfg(test)]
 mod visible;
 #[cfg(test)]
+mod words;
+#[cfg(test)]
 mod worked;
