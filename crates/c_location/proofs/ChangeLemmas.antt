@@ -1,5 +1,5 @@
 -- Trees whose parts are changed one after another.
-use Rattle.std.proofs.Common.{◌≡◌, ℕ, suc, ◌+◌, ◌<◌, ◌≤◌, List, [], ◌∷◌, ◌++◌, map, length, take, drop, get_or, slice_set, refl, sym, ap, ◌∙◌, add-one, drop-cons, drop-set-lt, arith, Vec, Global}
+use Rattle.std.proofs.Common.{◌≡◌, ℕ, ◌+◌, ◌<◌, ◌≤◌, List, [], ◌∷◌, ◌++◌, map, length, take, drop, get_or, slice_set, refl, sym, ap, ◌∙◌, add-one, drop-cons, drop-set-lt, arith, Vec, Global}
 use Rattle.std.proofs.lemmas.Grind.{common_steps}
 use Rattle.std.proofs.lemmas.List.{take_all, take_more_set}
 use Rattle.c_tree.specs.declared.place.Loc.{Loc}
@@ -10,7 +10,7 @@ use Rattle.c_tree.specs.declared.expr.ExprNode.TheVariants.{Call}
 use Rattle.c_tree.specs.declared.stmt.Item.{Item}
 use Rattle.c_tree.specs.declared.stmt.StmtNode.{StmtNode}
 use Rattle.c_tree.specs.declared.stmt.StmtNode.TheVariants.{Block}
-use Rattle.c_tree.specs.Tree.{Tree, Body, call, block, if_then, next, done}
+use Rattle.c_tree.specs.Tree.{Tree, call, block, if_then, next, done}
 use Rattle.c_tree.specs.Views.{node_tree, args_of, node_code, body_of}
 use Rattle.c_tree.proofs.ViewsLemmas.{node-Call, node-Block}
 use Rattle.c_location.specs.Changes.{guarded}

@@ -2,7 +2,7 @@
 use Rattle.c_tree.specs.declared.expr.BinOp.{BinOp}
 use Rattle.c_tree.specs.declared.expr.BinOp.TheVariants.{Both, Either}
 use Rattle.c_tree.specs.Parts.{span_of, span_of_code}
-use Rattle.c_tree.specs.Tree.{Tree, binary, Code, block, if_then, next, done}
+use Rattle.c_tree.specs.Tree.{Tree, binary, block, if_then, next, done}
 use Rattle.c_tree.specs.Views.{tree as tree_of}
 use Rattle.c_location.specs.declared.change.Change.{Change}
 use Rattle.c_location.specs.declared.change.Change.TheVariants as change

@@ -59,18 +59,24 @@ pub fn change_part(alloc: Global, e: &mut Expr, change: &Change) -> Result<(), N
     }
 }
 
-/// The one item of the block: an `if` with a copy of the test round the statement.
-fn guard(alloc: Global, node: StmtNode, span: Span, test: &Expr) -> Result<Vec<Item>, NoMemory>
-    ensures { IfOk result (λ r. body_of r.items ≡
-        next (if_then (tree test.now) (node_code node span) span) done) }
+/// An `if` with a copy of the test round the statement.
+fn guard(alloc: Global, node: StmtNode, span: Span, test: &Expr) -> Result<StmtNode, NoMemory>
+    ensures { IfOk result (λ r. node_code r span ≡
+        if_then (tree test.now) (node_code node span) span) }
 {
     let test = copy_expr(alloc, test)?;
     let yes = Box::new(alloc, Stmt { node, span })?;
-    let node = StmtNode::If {
+    Ok(StmtNode::If {
         test,
         yes,
         no: None,
-    };
+    })
+}
+
+/// The items of a block that holds the statement alone.
+fn alone(alloc: Global, node: StmtNode, span: Span) -> Result<Vec<Item>, NoMemory>
+    ensures { IfOk result (λ r. body_of r.items ≡ next (node_code node span) done) }
+{
     let mut items = Vec::new(alloc);
     items.push(Item::Stmt(Stmt { node, span }))?;
     Ok(items)
@@ -81,7 +87,8 @@ fn guarded(alloc: Global, node: StmtNode, span: Span, test: &Expr) -> Result<Stm
     ensures { IfOk result (λ r. node_code r span ≡
         (guard_of (tree test.now)).code (node_code node span)) }
 {
-    Ok(StmtNode::Block(guard(alloc, node, span, test)?))
+    let node = guard(alloc, node, span, test)?;
+    Ok(StmtNode::Block(alone(alloc, node, span)?))
 }
 
 /// The statement with the change made. One of an expression leaves it.

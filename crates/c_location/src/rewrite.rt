@@ -3,7 +3,7 @@
 
 ghost use Rattle.std.specs.Prelude.{◌≡◌, map, OnOk, IfOk};
 ghost use Rattle.c_tree.specs.declared.place.Span.{Span};
-ghost use Rattle.c_tree.specs.Tree.{Args, Body, binary, choice, assign, comma, act, if_then, if_else, for, give};
+ghost use Rattle.c_tree.specs.Tree.{Args, Body, binary, choice, assign, comma, act, if_then, if_else, while, do_while, for, give};
 ghost use Rattle.c_tree.specs.Views.{tree, node_tree, args_of, with_arg, trees, tree_option, initial, variable, variables, first, code, node_code, body_of, body_option, with_item, outer, program as tree_program};
 ghost use Rattle.c_location.specs.Changes.{rewrite_of};
 ghost use Rattle.c_location.specs.Rewrites.{at_tree, at_assigned, at_code, to_tree, to_args, to_test, to_step, to_value, to_initial, to_variable, to_first, to_code, to_body, to_definition, to_outer, rewritten};
@@ -323,6 +323,27 @@ fn change_init(alloc: Global, init: &mut Init, l: &Loc, change: &Change) -> Resu
     }
 }
 
+/// Changes the three clauses of a `for`.
+fn change_clauses(
+    alloc: Global,
+    init: &mut Init,
+    test: &mut Option<Expr>,
+    step: &mut Option<Expr>,
+    l: &Loc,
+    change: &Change,
+) -> Result<(), NoMemory>
+    ensures init { OnOk result (first init.new ≡
+        to_first l.now (rewrite_of change.now) (first init.old)) }
+    ensures test { OnOk result (tree_option test.new ≡
+        to_test l.now (rewrite_of change.now) (tree_option test.old)) }
+    ensures step { OnOk result (tree_option step.new ≡
+        to_step l.now (rewrite_of change.now) (tree_option step.old)) }
+{
+    change_init(alloc, init, l, change)?;
+    change_test(alloc, test, l, change)?;
+    change_step(alloc, step, l, change)
+}
+
 /// The expression statement, changed.
 fn changed_act(
     alloc: Global,
@@ -377,13 +398,22 @@ fn changed_jump(
     Ok(jump)
 }
 
+/// Puts the node into the statement, which keeps its place in the text.
+fn put_node(st: &mut Stmt, node: StmtNode)
+    ensures { code st.new ≡ node_code node st.old.span }
+{
+    let span = st.span;
+    drop(mem::replace(st, Stmt { node, span }));
+}
+
 /// Changes the statement.
 #[cycle(change_stmt)]
 fn change_stmt(alloc: Global, st: &mut Stmt, l: &Loc, change: &Change) -> Result<(), NoMemory>
     ensures { OnOk result (code st.new ≡ to_code l.now (rewrite_of change.now) (code st.old)) }
 {
     let node = mem::replace(&mut st.node, StmtNode::Empty);
-    st.node = changed_kind(alloc, node, st.span, l, change)?;
+    let node = changed_kind(alloc, node, st.span, l, change)?;
+    put_node(st, node);
     Ok(())
 }
 
@@ -413,16 +443,8 @@ fn changed_kind(
             None => changed_if(alloc, test, yes, l, change),
             Some(no) => changed_if_else(alloc, test, yes, no, l, change),
         },
-        StmtNode::While { mut test, mut body } => {
-            change_here(alloc, &mut test, LocKind::Cond, l, change)?;
-            change_stmt(alloc, &mut body, l, change)?;
-            Ok(StmtNode::While { test, body })
-        }
-        StmtNode::Do { mut body, mut test } => {
-            change_stmt(alloc, &mut body, l, change)?;
-            change_here(alloc, &mut test, LocKind::Cond, l, change)?;
-            Ok(StmtNode::Do { body, test })
-        }
+        StmtNode::While { test, body } => changed_while(alloc, test, body, l, change),
+        StmtNode::Do { body, test } => changed_do(alloc, body, test, l, change),
         StmtNode::For {
             init,
             test,
@@ -476,6 +498,40 @@ fn changed_if_else(
     })
 }
 
+/// The `while`, changed.
+#[cycle(change_stmt)]
+fn changed_while(
+    alloc: Global,
+    mut test: Expr,
+    mut body: Box<Stmt>,
+    l: &Loc,
+    change: &Change,
+) -> Result<StmtNode, NoMemory>
+    ensures { IfOk result (λ r. (s : Span) → node_code r s ≡
+        to_code l.now (rewrite_of change.now) (while (tree test) (code body.value) s)) }
+{
+    change_here(alloc, &mut test, LocKind::Cond, l, change)?;
+    change_stmt(alloc, &mut body, l, change)?;
+    Ok(StmtNode::While { test, body })
+}
+
+/// The `do`, changed.
+#[cycle(change_stmt)]
+fn changed_do(
+    alloc: Global,
+    mut body: Box<Stmt>,
+    mut test: Expr,
+    l: &Loc,
+    change: &Change,
+) -> Result<StmtNode, NoMemory>
+    ensures { IfOk result (λ r. (s : Span) → node_code r s ≡
+        to_code l.now (rewrite_of change.now) (do_while (code body.value) (tree test) s)) }
+{
+    change_stmt(alloc, &mut body, l, change)?;
+    change_here(alloc, &mut test, LocKind::Cond, l, change)?;
+    Ok(StmtNode::Do { body, test })
+}
+
 /// The `for`, changed.
 #[cycle(change_stmt)]
 fn changed_for(
@@ -490,9 +546,7 @@ fn changed_for(
     ensures { IfOk result (λ r. (s : Span) → node_code r s ≡ to_code l.now (rewrite_of change.now)
         (for (first init) (tree_option test) (tree_option step) (code body.value) s)) }
 {
-    change_init(alloc, &mut init, l, change)?;
-    change_test(alloc, &mut test, l, change)?;
-    change_step(alloc, &mut step, l, change)?;
+    change_clauses(alloc, &mut init, &mut test, &mut step, l, change)?;
     change_stmt(alloc, &mut body, l, change)?;
     Ok(StmtNode::For {
         init,

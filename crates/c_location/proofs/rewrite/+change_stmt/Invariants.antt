@@ -26,6 +26,12 @@ decreases-changed_if l = 2 * the_size l.yes.value + 1
 abbrev pub decreases-changed_if_else : goal.decreases-changed_if_else
 decreases-changed_if_else l = 2 * max (the_size l.yes.value) (the_size l.no.value) + 1
 
+abbrev pub decreases-changed_while : goal.decreases-changed_while
+decreases-changed_while l = 2 * the_size l.body.value + 1
+
+abbrev pub decreases-changed_do : goal.decreases-changed_do
+decreases-changed_do l = 2 * the_size l.body.value + 1
+
 abbrev pub decreases-changed_for : goal.decreases-changed_for
 decreases-changed_for l = 2 * the_size l.body.value + 1
 
