@@ -1,8 +1,8 @@
 -- Spans of trees, and the arguments of a call one by one.
-use Rattle.std.proofs.Common.{◌≡◌, ℕ, suc, ◌+◌, ◌<◌, List, [], ◌∷◌, ◌++◌, get_or, length, drop, refl, sym, ap, ◌∙◌, add-one, drop-cons, Option, Some, Vec, Global}
+use Rattle.std.proofs.Common.{◌≡◌, ℕ, suc, ◌+◌, ◌<◌, List, ◌∷◌, ◌++◌, get_or, length, drop, refl, sym, ap, ◌∙◌, add-one, drop-cons, Option, Vec, Global}
 use Rattle.c_tree.specs.declared.place.Span.{Span}
 use Rattle.c_tree.specs.declared.expr.Arg.{Arg}
-use Rattle.c_tree.specs.declared.expr.Arg.TheVariants.{Value', Format, Address', Value}
+use Rattle.c_tree.specs.declared.expr.Arg.TheVariants.{Value}
 use Rattle.c_tree.specs.declared.expr.Expr.{Expr}
 use Rattle.c_tree.specs.declared.expr.ExprNode.{ExprNode}
 use Rattle.c_tree.specs.declared.expr.ExprNode.TheVariants.{Const, Name, Index', Call', Unary', Cast', Binary', Choice', Assign', Bump', Comma', Call}

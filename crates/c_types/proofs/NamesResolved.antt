@@ -9,9 +9,8 @@ use Rattle.std.proofs.lemmas.List.Elements.{All-nil, All-cons, All-append}
 use Rattle.c_tree.specs.declared.place.Span.{Span}
 use Rattle.c_tree.specs.declared.program.Param.{Param}
 use Rattle.c_tree.specs.declared.stmt.Slot.{Slot}
-use Rattle.c_tree.specs.declared.stmt.Slot.TheVariants.{Unset, Global, Local}
+use Rattle.c_tree.specs.declared.stmt.Slot.TheVariants.{Unset}
 use Rattle.c_tree.specs.declared.stmt.Ty.{Ty}
-use Rattle.c_tree.specs.declared.stmt.Ty.TheVariants.{Int, Char}
 use Rattle.c_tree.specs.Parts.{span_of}
 use Rattle.c_tree.specs.Tree.{Tree, constant, name, index, call, unary, cast, binary, choice, assign, bump, comma, hole, hole_after, Args, no_args, value, format, address, Initial, bare_start, one_start, list_start, Variable, First, no_first, first_act, first_vars, Code, empty, act, block, if_then, if_else, while, do_while, for, give, break, continue, Body, done, next, vars, Function, Outer, outer_vars, outer_func}
 use Rattle.c_types.specs.declared.fault.FaultKind.{FaultKind}
@@ -24,8 +23,7 @@ use Rattle.c_types.specs.declared.scope.Entity.TheVariants.{Variable as Variable
 use Rattle.c_types.specs.declared.scope.ParamType.{ParamType}
 use Rattle.c_types.specs.declared.scope.Storage.{Storage}
 use Rattle.c_types.specs.declared.scope.Storage.TheVariants.{Static, Automatic}
-use Rattle.c_types.specs.Arguments.{number_faults, array_faults, is_int, stores_int, converted, wanted_by, wanted, value_faults, format_faults, operand_faults, address_faults, args_count, no_format, miscounts, formatted_faults, call_faults}
-use Rattle.c_types.specs.Constants.{constant_faults}
+use Rattle.c_types.specs.Arguments.{number_faults, array_faults, is_int, stores_int, converted, wanted_by, wanted, value_faults, format_faults, address_faults, args_count, no_format, miscounts, formatted_faults, call_faults}
 use Rattle.c_types.specs.Evidence.{IsChecked}
 use Rattle.c_types.specs.Expressions.{void_faults, index_faults, place_faults, as_number, as_void, faults, args_faults}
 use Rattle.c_types.specs.Formats.{conversions, scan_conversions}
@@ -37,8 +35,7 @@ use Rattle.c_types.specs.Programs.{param_declaration, function_declaration, para
 use Rattle.c_types.specs.Scopes.{denoted, is_declared}
 use Rattle.c_types.specs.Slots.{first_count, code_count, slot_in, entity_slot, numbered_variable, numbered, numbered_param, numbered_params, resolved_tree, resolved_args, resolved_option, resolved_initial, resolved_variable, resolved_variables, numbered_first, resolved_first, resolved_code, resolved_body, resolved_definition, resolved_function, resolved_outers, resolved}
 use Rattle.c_types.specs.Statements.{variable_declaration, declared, length_faults, as_numbers, initial_faults, number_option, void_option, variable_faults, variables_faults, first_declared, first_faults, return_faults, code_faults, body_faults}
-use Rattle.c_types.specs.Unresolved.{unresolved, unresolved_function}
-use Rattle.c_types.specs.Uses.{Use, tree_uses, args_uses, uses, IsResolved}
+use Rattle.c_types.specs.Uses.{tree_uses, args_uses, uses, IsResolved}
 use Rattle.c_types.proofs.Checked.{none_left, none_right, no_fault}
 use Rattle.c_types.proofs.Resolving.{program-kept, function-kept}
 use Rattle.c_types.proofs.SlotlessFaults.{function_declaration-same}

@@ -26,7 +26,7 @@ use Rattle.c_types.specs.declared.scope.Entity.{Entity}
 use Rattle.c_types.specs.declared.scope.Entity.TheVariants as entity
 use Rattle.c_types.specs.declared.scope.Storage.{Storage}
 use Rattle.c_types.specs.declared.scope.Storage.TheVariants.{Static, Automatic}
-use Rattle.c_types.specs.Arguments.{number_faults, array_faults, value_faults, format_faults, operand_faults, address_faults, formatted_faults, call_faults, converted, wanted}
+use Rattle.c_types.specs.Arguments.{number_faults, array_faults, value_faults, format_faults, address_faults, formatted_faults, call_faults, converted, wanted}
 use Rattle.c_types.specs.Constants.{not_constant, not_constant_args, not_constant_all, not_constant_initial, constant_faults}
 use Rattle.c_types.specs.Expressions.{void_faults, index_faults, place_faults, as_number, as_void, faults, args_faults}
 use Rattle.c_types.specs.Formats.{conversions, scan_conversions}
@@ -34,9 +34,9 @@ use Rattle.c_types.specs.Kinds.{kind, named}
 use Rattle.c_types.specs.FaultWords.{place_of}
 use Rattle.c_types.specs.Least.{fault, fault_if, Causes}
 use Rattle.c_types.specs.Library.{library}
-use Rattle.c_types.specs.Programs.{params_faults, redeclared_faults, name_faults, definition_faults, function_faults, function_declaration, params_declared, param_declaration, outers_faults, main_faults, program_faults}
+use Rattle.c_types.specs.Programs.{params_faults, redeclared_faults, name_faults, definition_faults, function_declaration, params_declared, param_declaration, outers_faults, program_faults}
 use Rattle.c_types.specs.Scopes.{denoted}
-use Rattle.c_types.specs.Statements.{variable_declaration, declared, length_faults, as_numbers, initial_faults, number_option, void_option, variable_faults, variables_faults, first_declared, first_faults, clause_faults, return_faults, code_faults, body_faults}
+use Rattle.c_types.specs.Statements.{variable_declaration, declared, length_faults, as_numbers, initial_faults, number_option, void_option, variables_faults, first_declared, first_faults, return_faults, code_faults, body_faults}
 
 -- each fault stands at a place up to this one
 pub data Upto (end : ℕ) : List Fault → Type 0 where

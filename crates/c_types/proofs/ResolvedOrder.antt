@@ -1,16 +1,16 @@
 -- The spans of a program are in text order after resolving as they are before.
-use Rattle.std.proofs.Common.{ℕ, suc, ◌+◌, List, [], ◌∷◌, ◌++◌, map, length, Option, Some, None}
+use Rattle.std.proofs.Common.{ℕ, suc, ◌+◌, List, [], ◌∷◌, ◌++◌, map, length, Option}
 use Rattle.c_tree.specs.declared.program.Param.{Param}
 use Rattle.c_tree.specs.declared.stmt.Slot.{Slot}
 use Rattle.c_tree.specs.declared.stmt.Ty.{Ty}
 use Rattle.c_tree.specs.Order as order
 use Rattle.c_tree.specs.Order.{TreeIn, ArgsIn, TreesIn, OptionIn, InitialIn, VariablesIn, FirstIn, CodeIn, BodyIn, ParamsIn, DefinitionIn, OuterIn, ProgramIn}
-use Rattle.c_tree.specs.Tree.{Tree, Args, Initial, Variable, First, Code, Body, Function, Outer, outer_vars, outer_func}
+use Rattle.c_tree.specs.Tree.{Tree, Args, Initial, Variable, First, Code, Body, Outer}
 use Rattle.c_types.specs.declared.scope.Declaration.{Declaration}
 use Rattle.c_types.specs.declared.scope.Storage.TheVariants.{Static, Automatic}
 use Rattle.c_types.specs.Library.{library}
 use Rattle.c_types.specs.Programs.{function_declaration, params_declared}
-use Rattle.c_types.specs.Slots.{first_count, code_count, slot_in, numbered_variable, numbered, numbered_params, resolved_tree, resolved_args, resolved_option, resolved_initial, resolved_variables, numbered_first, resolved_first, resolved_code, resolved_body, resolved_definition, resolved_function, resolved_outers, resolved}
+use Rattle.c_types.specs.Slots.{first_count, code_count, slot_in, numbered_variable, numbered, numbered_params, resolved_tree, resolved_args, resolved_option, resolved_initial, resolved_variables, numbered_first, resolved_first, resolved_code, resolved_body, resolved_definition, resolved_outers, resolved}
 use Rattle.c_types.specs.Statements.{variable_declaration, declared, first_declared}
 
 module _ (ds : List Declaration) where

@@ -1,5 +1,5 @@
 -- Resolving changes slots alone, and doesn't look at those that were there before.
-use Rattle.std.proofs.Common.{◌≡◌, ℕ, suc, ◌+◌, true, false, List, [], ◌∷◌, ◌++◌, map, length, Option, Some, None, is_some, refl, sym, ap, ap₂, ◌∙◌}
+use Rattle.std.proofs.Common.{◌≡◌, ℕ, suc, ◌+◌, List, [], ◌∷◌, ◌++◌, map, length, Option, Some, None, refl, ap, ap₂, ◌∙◌}
 use Rattle.std.proofs.lemmas.List.{length-map}
 use Rattle.c_tree.specs.declared.program.Param.{Param}
 use Rattle.c_tree.specs.declared.stmt.Slot.{Slot}
@@ -9,11 +9,11 @@ use Rattle.c_tree.specs.Tree.{Tree, constant, name, index, call, unary, cast, bi
 use Rattle.c_types.specs.declared.scope.Declaration.{Declaration}
 use Rattle.c_types.specs.declared.scope.Storage.TheVariants.{Static, Automatic}
 use Rattle.c_types.specs.Library.{library}
-use Rattle.c_types.specs.Programs.{function_declaration, params_declared, param_declaration}
+use Rattle.c_types.specs.Programs.{function_declaration, params_declared}
 use Rattle.c_types.specs.Scopes.{denoted}
-use Rattle.c_types.specs.Slots.{entity_slot, first_count, code_count, body_count, slot_in, numbered_variable, numbered, numbered_param, numbered_params, resolved_tree, resolved_args, resolved_option, resolved_initial, resolved_variable, resolved_variables, numbered_first, resolved_first, resolved_code, resolved_body, resolved_definition, resolved_function, resolved_outers, resolved}
+use Rattle.c_types.specs.Slots.{entity_slot, first_count, code_count, body_count, slot_in, numbered_variable, numbered, numbered_param, numbered_params, resolved_tree, resolved_args, resolved_option, resolved_initial, resolved_variables, numbered_first, resolved_first, resolved_code, resolved_body, resolved_definition, resolved_function, resolved_outers, resolved}
 use Rattle.c_types.specs.Statements.{variable_declaration, declared, first_declared}
-use Rattle.c_types.specs.Unresolved.{unresolved_tree, unresolved_args, unresolved_option, unresolved_initial, unresolved_variable, unresolved_first, unresolved_code, unresolved_body, unresolved_definition, unresolved_param, unresolved_function, unresolved_outer, unresolved}
+use Rattle.c_types.specs.Unresolved.{unresolved_tree, unresolved_args, unresolved_option, unresolved_initial, unresolved_variable, unresolved_first, unresolved_code, unresolved_body, unresolved_definition, unresolved_param, unresolved_function, unresolved}
 use Rattle.c_types.proofs.SlotlessFaults.{function_declaration-same}
 
 -- Resolving changes slots alone.

@@ -11,7 +11,7 @@ use Rattle.c_tree.specs.declared.stmt.Ty.{Ty}
 use Rattle.c_tree.specs.declared.stmt.Ty.TheVariants.{Int, Char}
 use Rattle.c_tree.specs.Parts.{span_of}
 use Rattle.c_tree.specs.Tree.{Tree, constant, name, index, call, unary, cast, binary, choice, assign, bump, comma, hole, hole_after, Args, no_args, value, format, address, Initial, bare_start, one_start, list_start, Variable, First, no_first, first_act, first_vars, Code, empty, act, block, if_then, if_else, while, do_while, for, give, break, continue, Body, done, next, vars, Function, Outer, outer_vars, outer_func}
-use Rattle.c_types.specs.declared.fault.FaultKind.TheVariants.{Unknown, Twice, WrongKind, WrongCount, NotPlace, NotConstant, BadArrayLength, LoopOnly, BadFormat, NoMain}
+use Rattle.c_types.specs.declared.fault.FaultKind.TheVariants.{Unknown, Twice, WrongKind, WrongCount, NotPlace, NotConstant, BadArrayLength, BadFormat, NoMain}
 use Rattle.c_types.specs.declared.kinds.Wanted.{Wanted}
 use Rattle.c_types.specs.declared.kinds.Wanted.TheVariants.{Anything, Scalar, ArrayOf, PrintfFormat, ScanfFormat, IntAddress}
 use Rattle.c_types.specs.declared.scope.Declaration.{Declaration}
@@ -20,16 +20,16 @@ use Rattle.c_types.specs.declared.scope.Entity.TheVariants.{Variable as Variable
 use Rattle.c_types.specs.declared.scope.Storage.{Storage}
 use Rattle.c_types.specs.declared.scope.Storage.TheVariants.{Static, Automatic}
 use Rattle.c_types.specs.Arguments.{number_faults, is_place, is_int, stores_int, converted, wanted, value_faults, format_faults, operand_faults, address_faults, args_count, no_format, miscounts, formatted_faults, call_faults}
-use Rattle.c_types.specs.Constants.{not_constant, not_constant_args, not_constant_all, not_constant_initial, constant_faults}
+use Rattle.c_types.specs.Constants.{not_constant, not_constant_args, not_constant_all, constant_faults}
 use Rattle.c_types.specs.Expressions.{void_faults, index_faults, place_faults, as_number, as_void, faults, args_faults}
 use Rattle.c_types.specs.Formats.{conversions, scan_conversions}
 use Rattle.c_types.specs.Kinds.{kind, named, called}
 use Rattle.c_types.specs.Least.{fault, fault_if}
 use Rattle.c_types.specs.Library.{library}
-use Rattle.c_types.specs.Programs.{is_defined, param_type, param_declaration, function_declaration, params_declared, params_faults, same_result, same_params, redeclared_faults, name_faults, definition_faults, function_faults, outers_faults, has_no_params, is_main, has_main, main_faults, program_faults}
+use Rattle.c_types.specs.Programs.{is_defined, param_type, param_declaration, function_declaration, params_declared, params_faults, same_result, same_params, redeclared_faults, name_faults, definition_faults, function_faults, outers_faults, has_no_params, is_main, has_main, program_faults}
 use Rattle.c_types.specs.Scopes.{denoted, is_declared}
-use Rattle.c_types.specs.Statements.{is_array, variable_declaration, declared, elements, is_list, list_faults, length_faults, as_numbers, initial_faults, number_option, void_option, variable_faults, variables_faults, first_declared, first_faults, return_faults, code_faults, body_faults}
-use Rattle.c_types.specs.Unresolved.{unresolved_tree, unresolved_args, unresolved_option, unresolved_initial, unresolved_variable, unresolved_first, unresolved_code, unresolved_body, unresolved_definition, unresolved_param, unresolved_function, unresolved_outer, unresolved}
+use Rattle.c_types.specs.Statements.{variable_declaration, declared, elements, is_list, list_faults, length_faults, as_numbers, initial_faults, number_option, void_option, variables_faults, first_declared, first_faults, return_faults, code_faults, body_faults}
+use Rattle.c_types.specs.Unresolved.{unresolved_tree, unresolved_args, unresolved_option, unresolved_initial, unresolved_variable, unresolved_first, unresolved_code, unresolved_body, unresolved_definition, unresolved_param, unresolved_function, unresolved}
 
 -- what a name denotes, without a slot
 abbrev pub plain : Entity → Entity

@@ -1,6 +1,6 @@
 -- The functions of the library, which are declared at file scope from the start, with or without the
 -- headers that declare them (C11 7.21.6, 7.21.7, 7.22.4.4, 7.22.6.1).
-use Rattle.std.specs.Prelude.{ℕ, false, List, [], ◌∷◌, Option, Some, None, codes}
+use Rattle.std.specs.Prelude.{ℕ, false, List, [], ◌∷◌, Some, None, codes}
 use Rattle.c_tree.specs.declared.stmt.Ty.TheVariants.{Int}
 use Rattle.c_types.specs.declared.scope.Declaration.{Declaration}
 use Rattle.c_types.specs.declared.scope.Entity.{Entity}

@@ -1,5 +1,5 @@
 -- The values of objects.
-use Rattle.std.specs.Prelude.{ℕ, ℤ, pos, negsuc, List, [], ◌∷◌, Option, Some, None, slice_get}
+use Rattle.std.specs.Prelude.{ℤ, pos, negsuc, List, Option, Some, None, slice_get}
 
 -- the object of a variable: its elements in order, each a number or uninitialised; the object of a variable
 -- that is no array has one element

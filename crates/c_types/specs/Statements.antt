@@ -10,7 +10,7 @@ use Rattle.c_types.specs.declared.fault.FaultKind.TheVariants.{Twice, WrongKind,
 use Rattle.c_types.specs.declared.scope.Declaration.{Declaration}
 use Rattle.c_types.specs.declared.scope.Entity.TheVariants.{Variable as VariableEntity}
 use Rattle.c_types.specs.declared.scope.Storage.{Storage}
-use Rattle.c_types.specs.declared.scope.Storage.TheVariants.{Static, Automatic}
+use Rattle.c_types.specs.declared.scope.Storage.TheVariants.{Automatic}
 use Rattle.c_types.specs.Constants.{constant_faults}
 use Rattle.c_types.specs.Expressions.{as_number, as_void, faults}
 use Rattle.c_types.specs.Least.{fault, fault_if}

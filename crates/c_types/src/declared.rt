@@ -1,6 +1,6 @@
 //! What declarators, parameters and functions declare, and the names that are declared from the start.
 
-ghost use Rattle.std.specs.Prelude.{◌≡◌, ◌||◌, [], ◌∷◌, List, map, if◌then◌else◌, IfOk};
+ghost use Rattle.std.specs.Prelude.{◌≡◌, ◌||◌, [], ◌∷◌, List, map, if◌then◌else◌, IfOk, OnOk};
 ghost use Rattle.c_tree.specs.Tree.{Outer};
 ghost use Rattle.c_tree.specs.Views.{variable, function, outer};
 ghost use Rattle.c_types.specs.declared.scope.Entity.TheVariants.{Library};
@@ -154,22 +154,46 @@ fn library_function(alloc: Global, ret: Option<Ty>, one: bool) -> Result<Entity,
     Ok(Entity::Library { ret, params })
 }
 
+/// Declares a name of the library.
+fn declare_name(
+    alloc: Global,
+    word: &[u8],
+    entity: Entity,
+    scope: &mut Scope<'_>,
+) -> Result<(), NoMemory>
+    ensures here { OnOk result (here scope.new ≡ library_name word.now entity ∷ here scope.old) }
+    ensures outside { outside scope.new ≡ outside scope.old }
+{
+    scope.declare(library_name(alloc, word, entity)?)
+}
+
+/// Declares a function of the library, with one `int` as its parameter or none.
+fn declare_function(
+    alloc: Global,
+    word: &[u8],
+    ret: Option<Ty>,
+    one: bool,
+    scope: &mut Scope<'_>,
+) -> Result<(), NoMemory>
+    ensures here { OnOk result (here scope.new
+        ≡ library_name word.now (Library ret (if one then int_param ∷ [] else [])) ∷ here scope.old) }
+    ensures outside { outside scope.new ≡ outside scope.old }
+{
+    declare_name(alloc, word, library_function(alloc, ret, one)?, scope)
+}
+
 /// The scope of a file before its first declaration: it has the names of the library.
 pub fn library<'a>(alloc: Global) -> Result<Scope<'a>, NoMemory>
     ensures here { IfOk result (λ s. here s ≡ library) }
     ensures outside { IfOk result (λ s. outside s ≡ []) }
 {
     let int = Some(Ty::Int);
-    let abs = library_function(alloc, int, true)?;
-    let exit = library_function(alloc, None, true)?;
-    let putchar = library_function(alloc, int, true)?;
-    let getchar = library_function(alloc, int, false)?;
     let mut scope = Scope::outermost(alloc);
-    scope.declare(library_name(alloc, b"abs".as_slice(), abs)?)?;
-    scope.declare(library_name(alloc, b"exit".as_slice(), exit)?)?;
-    scope.declare(library_name(alloc, b"scanf".as_slice(), Entity::Scanf)?)?;
-    scope.declare(library_name(alloc, b"printf".as_slice(), Entity::Printf)?)?;
-    scope.declare(library_name(alloc, b"putchar".as_slice(), putchar)?)?;
-    scope.declare(library_name(alloc, b"getchar".as_slice(), getchar)?)?;
+    declare_function(alloc, b"abs".as_slice(), int, true, &mut scope)?;
+    declare_function(alloc, b"exit".as_slice(), None, true, &mut scope)?;
+    declare_name(alloc, b"scanf".as_slice(), Entity::Scanf, &mut scope)?;
+    declare_name(alloc, b"printf".as_slice(), Entity::Printf, &mut scope)?;
+    declare_function(alloc, b"putchar".as_slice(), int, true, &mut scope)?;
+    declare_function(alloc, b"getchar".as_slice(), int, false, &mut scope)?;
     Ok(scope)
 }

@@ -4,7 +4,7 @@ use Rattle.std.proofs.lemmas.Int.{to_z-of_z}
 use Rattle.c_tree.specs.Views.{initial}
 use Rattle.c_types.specs.declared.fault.FaultKind.TheVariants.{WrongCount}
 use Rattle.c_types.specs.Least.{fault_if, least}
-use Rattle.c_types.specs.Statements.{elements, is_list}
+use Rattle.c_types.specs.Statements.{is_list}
 use Rattle.c_types.proofs.declaration.list_faults.Goals as goal
 
 pub returns : goal.returns
