@@ -1,9 +1,7 @@
 -- The plain trees of what is built.
 use Rattle.std.proofs.Common.{◌≡◌, ℕ, refl, sym, ap, ◌∙◌, List, [], ◌∷◌, ◌++◌, map, Vec, Global}
 use Rattle.c_tree.specs.declared.place.Span.{Span}
-use Rattle.c_tree.specs.declared.expr.Expr.{Expr}
-use Rattle.c_tree.specs.declared.expr.ExprNode.{ExprNode}
-use Rattle.c_tree.specs.declared.expr.ExprNode.TheVariants.{Const, Name, Index', Call', Unary', Cast', Binary', Choice', Assign', Bump', Comma', Call}
+use Rattle.c_tree.specs.declared.expr.ExprNode.TheVariants.{Call}
 use Rattle.c_tree.specs.declared.expr.Arg.{Arg}
 use Rattle.c_tree.specs.declared.expr.Arg.TheVariants.{Value', Format, Address'}
 use Rattle.c_tree.specs.declared.expr.Arg.TheBlock.{Row_of-Arg, more_of-Arg, end_of-Arg, items-the_row-Arg, items_hidden-the_row-Arg-0, hidden-the_row-Arg-0}
@@ -11,37 +9,11 @@ use Rattle.c_tree.specs.declared.stmt.StmtNode.TheVariants.{Block}
 use Rattle.c_tree.specs.declared.stmt.Item.{Item}
 use Rattle.c_tree.specs.declared.stmt.Item.TheVariants.{Vars, Stmt'}
 use Rattle.c_tree.specs.declared.stmt.Item.TheBlock.{Row_of-Item, more_of-Item, end_of-Item, items-the_row-Item, items_hidden-the_row-Item-0, hidden-the_row-Item-0}
-use Rattle.c_tree.specs.Tree.{call, choice, block, done}
-use Rattle.c_tree.specs.Views.{tree, node_tree, args_tree, with_arg, args_of, node_code, items_code, with_item, body_of}
-use Rattle.c_tree.specs.Parts.{span_of}
-use Rattle.c_grammar.specs.Grammar.{over, chosen, args}
+use Rattle.c_tree.specs.Tree.{call, block, done}
+use Rattle.c_tree.specs.Views.{node_tree, args_tree, with_arg, args_of, node_code, items_code, with_item, body_of}
+use Rattle.c_grammar.specs.Grammar.{args}
 use Rattle.c_grammar.specs.ProgramDescent.{append}
 use Rattle.c_parse.specs.Gives.{given}
-
--- the span of a node is that of its tree
-span_of-node : (n : ExprNode) (s : Span) → span_of (node_tree n s) ≡ s
-span_of-node (Const n word) s = refl
-span_of-node (Name word slot) s = refl
-span_of-node (Index' word slot _ e es) s = refl
-span_of-node (Call' word _ args) s = refl
-span_of-node (Unary' op _ e es) s = refl
-span_of-node (Cast' ty _ e es) s = refl
-span_of-node (Binary' op _ l ls _ r rs) s = refl
-span_of-node (Choice' _ t ts _ a as_ _ b bs) s = refl
-span_of-node (Assign' op _ l ls _ r rs) s = refl
-span_of-node (Bump' before up _ e es) s = refl
-span_of-node (Comma' _ l ls _ r rs) s = refl
-
--- the span of an expression is that of its tree
-pub span_of-tree : (e : Expr) → span_of (tree e) ≡ e.span
-span_of-tree e = span_of-node e.node e.span
-
--- a conditional expression of these parts
-pub choice-over : (a b c t u v : Expr) (s : Span) → a ≡ t → b ≡ u → c ≡ v → s ≡ over t.span v.span
-    → choice (tree a) (tree b) (tree c) s ≡ chosen (tree t) (tree u) (tree v)
-choice-over a b c t u v s p q w e =
-    ap (λ x. choice (tree x) (tree b) (tree c) s) p ∙ ap (λ x. choice (tree t) (tree x) (tree c) s) q ∙ ap (λ x. choice (tree t) (tree u) (tree x) s) w
-    ∙ ap (choice (tree t) (tree u) (tree v)) (e ∙ ap (λ o. over o v.span) (sym (span_of-tree t)) ∙ ap (over (span_of (tree t))) (sym (span_of-tree v)))
 
 -- the arguments of a call, one by one
 args-given : (xs : List Arg) → args_of xs ≡ args (map given xs)

@@ -1,5 +1,5 @@
 -- What a function that parses ensures: what the descent comes to, unless memory fails.
-use Rattle.std.specs.Prelude.{◌≡◌, ◌≢◌, ℕ, ℤ, suc, Bool, List, map, Option, Result, Ok, Err, Vec}
+use Rattle.std.specs.Prelude.{◌≡◌, ◌≢◌, ℕ, ℤ, suc, Bool, List, map, Option, Result, Ok, Err, Vec, Box}
 use Rattle.std.specs.declared.alloc.Global.{Global}
 use denote.Ref.{MutBor}
 use Rattle.c_tree.specs.declared.expr.Arg.{Arg}
@@ -11,10 +11,11 @@ use Rattle.c_tree.specs.declared.program.Param.{Param}
 use Rattle.c_tree.specs.declared.stmt.Declarator.{Declarator}
 use Rattle.c_tree.specs.declared.stmt.Init.{Init}
 use Rattle.c_tree.specs.declared.stmt.Item.{Item}
+use Rattle.c_tree.specs.declared.stmt.Stmt.{Stmt}
 use Rattle.c_tree.specs.declared.stmt.Ty.{Ty}
 use Rattle.c_tree.specs.Tree as plain
-use Rattle.c_tree.specs.Tree.{Tree, Variable, First, Body, Outer}
-use Rattle.c_tree.specs.Views.{node_tree, tree, tree_option, trees, variables, first, with_item, body_of, outer}
+use Rattle.c_tree.specs.Tree.{Tree, Code, Variable, First, Body, Outer}
+use Rattle.c_tree.specs.Views.{node_tree, tree, tree_option, trees, variables, first, code, with_item, body_of, outer}
 use Rattle.c_grammar.specs.declared.nonterminal.Nonterminal.{Nonterminal}
 use Rattle.c_grammar.specs.Grammar.{Tokens, Given, by_value, by_format, by_address}
 use Rattle.c_grammar.specs.Descent.{Reading, found, unexpected, too_deep, Reader, Read, run}
@@ -59,6 +60,10 @@ numbered x = x
 abbrev pub marked : Expr × Bool → Read
 marked x = (tree x.0, x.1)
 
+-- the same where the expression stands in a box
+abbrev pub marked_box : Box Expr Global × Bool → Read
+marked_box x = (tree x.0.value, x.1)
+
 -- an argument of a call
 abbrev pub given : Arg → Given
 given (Value' e s) = by_value (node_tree e s)
@@ -88,6 +93,10 @@ clauses x = (first x.0, tree_option x.1, tree_option x.2)
 -- the condition of a `do`, and the span of its `;`
 abbrev pub ended : Expr × Span → Tree × Span
 ended x = (tree x.0, x.1)
+
+-- a statement in a box
+abbrev pub boxed : Box Stmt Global → Code
+boxed b = code b.value
 
 -- an item of a block, as the items of a block that has no other
 abbrev pub alone : Item → Body

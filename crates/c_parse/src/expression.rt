@@ -6,14 +6,15 @@ ghost use Rattle.c_grammar.specs.Descent as spec;
 ghost use Rattle.c_grammar.specs.Descent.{run};
 ghost use Rattle.c_grammar.specs.Terminals as terminals;
 ghost use Rattle.c_grammar.specs.ProgramDescent as program;
-ghost use Rattle.c_parse.specs.Gives.{Parses, ReadsParts, marked, given, givens};
+ghost use Rattle.c_parse.specs.Gives.{Parses, ReadsParts, marked, marked_box, given, givens};
 ghost use Rattle.c_parse.specs.Parts as parts;
 
 use crate::cursor::{Cursor, span_over};
 use crate::fault::Stop;
 use crate::tree::{
-    assign_expr, binary_expr, call_expr, cast_expr, comma_expr, conditional_expr, const_expr,
-    index_expr, name_expr, parenthesized, postfix_bump_expr, prefix_bump_expr, unary_expr,
+    assign_expr, binary_expr, boxed_expr, call_expr, cast_expr, comma_expr, conditional_expr,
+    const_expr, index_expr, name_expr, parenthesized, postfix_bump_expr, prefix_bump_expr,
+    unary_expr,
 };
 use c_grammar::{Nonterminal, Terminal};
 use c_tree::{Arg, BinOp, Expr, Span, Text, UnOp};
@@ -41,6 +42,19 @@ impl<
         ensures { Parses marked (run self.now.depth part) cursor.old result cursor.new }
     {
         (self.parse_part)(self.alloc, cursor, self.depth, part)
+    }
+
+    // Parses a part after an opener into a box, in which it waits for what comes after it.
+    fn parse_boxed(
+        &self,
+        cursor: &mut Cursor<'_>,
+        part: Nonterminal,
+    ) -> Result<(Box<Expr>, bool), Stop>
+        requires { ReadsParts F.pre F.post self.now }
+        ensures { Parses marked_box (run self.now.depth part) cursor.old result cursor.new }
+    {
+        let (tree, unary) = self.parse_nested(cursor, part)?;
+        Ok((boxed_expr(self.alloc, tree)?, unary))
     }
 
     // Parses an argument that is a value.
@@ -133,12 +147,9 @@ impl<
     {
         let outside = cursor.room;
         cursor.open()?;
-        let (index, _) = self.parse_nested(cursor, Nonterminal::Expression)?;
+        let (index, _) = self.parse_boxed(cursor, Nonterminal::Expression)?;
         let to = cursor.expect_close_bracket(outside)?;
-        Ok((
-            index_expr(self.alloc, word, index, span_over(at, to))?,
-            true,
-        ))
+        Ok((index_expr(word, index, span_over(at, to)), true))
     }
 
     // Parses `( arguments )` after a name.
@@ -214,8 +225,9 @@ impl<
         let (tree, unary) = self.parse_primary(cursor)?;
         match cursor.peek_bump() {
             Some(up) => {
+                let place = boxed_expr(self.alloc, tree)?;
                 let to = cursor.advance()?;
-                Ok((postfix_bump_expr(self.alloc, up, tree, to)?, true))
+                Ok((postfix_bump_expr(up, place, to), true))
             }
             None => Ok((tree, unary)),
         }
@@ -300,9 +312,10 @@ impl<
             let Some(op) = cursor.peek_binary_operator(below + 1) else {
                 return Ok((left, unary));
             };
+            let held = boxed_expr(self.alloc, left)?;
             cursor.open()?;
             let (right, _) = self.parse_nested(cursor, Nonterminal::Binary(below))?;
-            left = binary_expr(self.alloc, op, left, right)?;
+            left = binary_expr(self.alloc, op, held, right)?;
             unary = false;
         }
         Err(Stop::TooDeep)
@@ -335,11 +348,12 @@ impl<
         if !cursor.is_at_question() {
             return Ok((test, unary));
         }
+        let test = boxed_expr(self.alloc, test)?;
         cursor.open()?;
-        let (yes, _) = self.parse_nested(cursor, Nonterminal::Expression)?;
+        let (yes, _) = self.parse_boxed(cursor, Nonterminal::Expression)?;
         cursor.expect_colon()?;
-        let (no, _) = self.parse_nested(cursor, Nonterminal::Conditional)?;
-        Ok((conditional_expr(self.alloc, test, yes, no)?, false))
+        let (no, _) = self.parse_boxed(cursor, Nonterminal::Conditional)?;
+        Ok((conditional_expr(test, yes, no), false))
     }
 
     // Parses a conditional expression (C11 6.5.15).
@@ -365,6 +379,7 @@ impl<
     {
         match cursor.peek_assignment() {
             Some(op) => {
+                let place = boxed_expr(self.alloc, place)?;
                 cursor.open()?;
                 let (value, _) = self.parse_nested(cursor, Nonterminal::Assignment)?;
                 Ok((assign_expr(self.alloc, op, place, value)?, false))
@@ -402,9 +417,10 @@ impl<
             if !cursor.is_at_comma() {
                 return Ok((left, unary));
             }
+            let held = boxed_expr(self.alloc, left)?;
             cursor.open()?;
             let (right, _) = self.parse_nested(cursor, Nonterminal::Assignment)?;
-            left = comma_expr(self.alloc, left, right)?;
+            left = comma_expr(self.alloc, held, right)?;
             unary = false;
         }
         Err(Stop::TooDeep)

@@ -11,7 +11,8 @@ use crate::declaration::parse_declaration;
 use crate::expression::parse_expression;
 use crate::fault::Stop;
 use crate::tree::{
-    block_stmt, do_stmt, expr_stmt, for_stmt, if_else_stmt, if_stmt, return_stmt, while_stmt,
+    block_stmt, boxed_stmt, do_stmt, expr_stmt, for_stmt, if_else_stmt, if_stmt, return_stmt,
+    while_stmt,
 };
 use c_grammar::{Nonterminal, Terminal};
 use c_tree::{Expr, Init, Item, Span, Stmt, StmtNode};
@@ -69,6 +70,26 @@ fn parse_for_init(alloc: Global, cursor: &mut Cursor<'_>) -> Result<Init, Stop>
     }
 }
 
+// Parses the condition of a `for`, with its `;`.
+fn parse_for_test(alloc: Global, cursor: &mut Cursor<'_>) -> Result<Option<Expr>, Stop>
+    ensures { Parses tree_option parts.for_test cursor.old result cursor.new }
+{
+    let always = cursor.is_at_semicolon();
+    let test = parse_optional_expression(alloc, cursor, always)?;
+    cursor.expect_semicolon()?;
+    Ok(test)
+}
+
+// Parses the step of a `for`, with the `)` after it, outside of which there is that room.
+fn parse_for_step(alloc: Global, cursor: &mut Cursor<'_>, outside: u8) -> Result<Option<Expr>, Stop>
+    ensures { Parses tree_option (parts.for_step outside) cursor.old result cursor.new }
+{
+    let no_step = cursor.is_at_close_paren();
+    let step = parse_optional_expression(alloc, cursor, no_step)?;
+    cursor.expect_close_paren(outside)?;
+    Ok(step)
+}
+
 // Parses the clauses of a `for`, with their parentheses.
 fn parse_for_clauses(
     alloc: Global,
@@ -79,12 +100,8 @@ fn parse_for_clauses(
     let outside = cursor.room;
     cursor.expect_open_paren()?;
     let init = parse_for_init(alloc, cursor)?;
-    let always = cursor.is_at_semicolon();
-    let test = parse_optional_expression(alloc, cursor, always)?;
-    cursor.expect_semicolon()?;
-    let no_step = cursor.is_at_close_paren();
-    let step = parse_optional_expression(alloc, cursor, no_step)?;
-    cursor.expect_close_paren(outside)?;
+    let test = parse_for_test(alloc, cursor)?;
+    let step = parse_for_step(alloc, cursor, outside)?;
     Ok((init, test, step))
 }
 
@@ -155,6 +172,19 @@ fn parse_inner_statement(alloc: Global, cursor: &mut Cursor<'_>, outside: u8) ->
     parse_statement(alloc, cursor)
 }
 
+// Parses a statement inside another one, outside of which there is that room, into a box.
+#[cycle(statement)]
+fn parse_boxed_statement(
+    alloc: Global,
+    cursor: &mut Cursor<'_>,
+    outside: u8,
+) -> Result<Box<Stmt>, Stop>
+    ensures { Parses seen.boxed (parts.inner outside) cursor.old result cursor.new }
+{
+    let statement = parse_inner_statement(alloc, cursor, outside)?;
+    Ok(boxed_stmt(alloc, statement)?)
+}
+
 // Parses an item of a block, outside of whose braces there is that room.
 #[cycle(statement)]
 fn parse_block_item(alloc: Global, cursor: &mut Cursor<'_>, outside: u8) -> Result<Item, Stop>
@@ -211,15 +241,15 @@ fn parse_if(alloc: Global, cursor: &mut Cursor<'_>) -> Result<Stmt, Stop>
     let outside = cursor.room;
     let from = cursor.open()?;
     let test = parse_condition(alloc, cursor)?;
-    let yes = parse_inner_statement(alloc, cursor, outside)?;
+    let yes = parse_boxed_statement(alloc, cursor, outside)?;
     if !cursor.is_at_else() {
         cursor.room = outside;
-        return Ok(if_stmt(alloc, from, test, yes)?);
+        return Ok(if_stmt(from, test, yes));
     }
     cursor.advance()?;
-    let no = parse_inner_statement(alloc, cursor, outside)?;
+    let no = parse_boxed_statement(alloc, cursor, outside)?;
     cursor.room = outside;
-    Ok(if_else_stmt(alloc, from, test, yes, no)?)
+    Ok(if_else_stmt(from, test, yes, no))
 }
 
 // Parses a `while`.
@@ -230,9 +260,9 @@ fn parse_while(alloc: Global, cursor: &mut Cursor<'_>) -> Result<Stmt, Stop>
     let outside = cursor.room;
     let from = cursor.open()?;
     let test = parse_condition(alloc, cursor)?;
-    let body = parse_inner_statement(alloc, cursor, outside)?;
+    let body = parse_boxed_statement(alloc, cursor, outside)?;
     cursor.room = outside;
-    Ok(while_stmt(alloc, from, test, body)?)
+    Ok(while_stmt(from, test, body))
 }
 
 // Parses `while ( expression ) ;` after the body of a `do`, outside of which there is that room:
@@ -254,9 +284,9 @@ fn parse_do(alloc: Global, cursor: &mut Cursor<'_>) -> Result<Stmt, Stop>
 {
     let outside = cursor.room;
     let from = cursor.open()?;
-    let body = parse_inner_statement(alloc, cursor, outside)?;
+    let body = parse_boxed_statement(alloc, cursor, outside)?;
     let (test, to) = parse_do_end(alloc, cursor, outside)?;
-    Ok(do_stmt(alloc, body, test, span_over(from, to))?)
+    Ok(do_stmt(body, test, span_over(from, to)))
 }
 
 // Parses a `for`.
@@ -267,9 +297,9 @@ fn parse_for(alloc: Global, cursor: &mut Cursor<'_>) -> Result<Stmt, Stop>
     let outside = cursor.room;
     let from = cursor.open()?;
     let (init, test, step) = parse_for_clauses(alloc, cursor)?;
-    let body = parse_inner_statement(alloc, cursor, outside)?;
+    let body = parse_boxed_statement(alloc, cursor, outside)?;
     cursor.room = outside;
-    Ok(for_stmt(alloc, from, init, test, step, body)?)
+    Ok(for_stmt(from, init, test, step, body))
 }
 
 // Parses a statement.

@@ -17,6 +17,20 @@ use c_tree::{
 };
 use std::alloc::Global;
 
+/// An expression in a box: while it waits for what comes next, it is held as one word.
+pub fn boxed_expr(alloc: Global, e: Expr) -> Result<Box<Expr>, NoMemory>
+    ensures { IfOk result (λ held. tree held.value ≡ tree e) }
+{
+    Ok(Box::new(alloc, e)?)
+}
+
+/// A statement in a box.
+pub fn boxed_stmt(alloc: Global, s: Stmt) -> Result<Box<Stmt>, NoMemory>
+    ensures { IfOk result (λ held. code held.value ≡ code s) }
+{
+    Ok(Box::new(alloc, s)?)
+}
+
 /// A constant.
 pub fn const_expr(value: i64, word: Text, span: Span) -> Expr
     ensures { tree result ≡ plain.constant value word span }
@@ -41,17 +55,17 @@ pub fn name_expr(word: Text, span: Span) -> Expr
 }
 
 /// An element of an array.
-pub fn index_expr(alloc: Global, word: Text, index: Expr, span: Span) -> Result<Expr, NoMemory>
-    ensures { IfOk result (λ e. tree e ≡ plain.index word Unset (tree index) span) }
+pub fn index_expr(word: Text, index: Box<Expr>, span: Span) -> Expr
+    ensures { tree result ≡ plain.index word Unset (tree index.value) span }
 {
-    Ok(Expr {
+    Expr {
         node: ExprNode::Index {
             word,
             slot: Slot::Unset,
-            index: Box::new(alloc, index)?,
+            index,
         },
         span,
-    })
+    }
 }
 
 /// A call.
@@ -91,19 +105,19 @@ pub fn prefix_bump_expr(alloc: Global, up: bool, from: Span, place: Expr) -> Res
 }
 
 /// `++` or `--` after an operand.
-pub fn postfix_bump_expr(alloc: Global, up: bool, place: Expr, to: Span) -> Result<Expr, NoMemory>
-    ensures { IfOk result (λ e.
-        tree e ≡ plain.bump false up (tree place) (over (span_of (tree place)) to)) }
+pub fn postfix_bump_expr(up: bool, place: Box<Expr>, to: Span) -> Expr
+    ensures { tree result
+        ≡ plain.bump false up (tree place.value) (over (span_of (tree place.value)) to) }
 {
     let span = span_over(place.span, to);
-    Ok(Expr {
+    Expr {
         node: ExprNode::Bump {
             before: false,
             up,
-            place: Box::new(alloc, place)?,
+            place,
         },
         span,
-    })
+    }
 }
 
 /// A prefix operator and its operand.
@@ -135,14 +149,14 @@ pub fn cast_expr(alloc: Global, from: Span, ty: Ty, of: Expr) -> Result<Expr, No
 }
 
 /// A binary operator and its operands.
-pub fn binary_expr(alloc: Global, op: BinOp, left: Expr, right: Expr) -> Result<Expr, NoMemory>
-    ensures { IfOk result (λ e. tree e ≡ grammar.joined op (tree left) (tree right)) }
+pub fn binary_expr(alloc: Global, op: BinOp, left: Box<Expr>, right: Expr) -> Result<Expr, NoMemory>
+    ensures { IfOk result (λ e. tree e ≡ grammar.joined op (tree left.value) (tree right)) }
 {
     let span = span_over(left.span, right.span);
     Ok(Expr {
         node: ExprNode::Binary {
             op,
-            left: Box::new(alloc, left)?,
+            left,
             right: Box::new(alloc, right)?,
         },
         span,
@@ -150,34 +164,31 @@ pub fn binary_expr(alloc: Global, op: BinOp, left: Expr, right: Expr) -> Result<
 }
 
 /// `test ? yes : no`
-pub fn conditional_expr(alloc: Global, test: Expr, yes: Expr, no: Expr) -> Result<Expr, NoMemory>
-    ensures { IfOk result (λ e. tree e ≡ grammar.chosen (tree test) (tree yes) (tree no)) }
+pub fn conditional_expr(test: Box<Expr>, yes: Box<Expr>, no: Box<Expr>) -> Expr
+    ensures { tree result
+        ≡ grammar.chosen (tree test.value) (tree yes.value) (tree no.value) }
 {
     let span = span_over(test.span, no.span);
-    Ok(Expr {
-        node: ExprNode::Choice {
-            test: Box::new(alloc, test)?,
-            yes: Box::new(alloc, yes)?,
-            no: Box::new(alloc, no)?,
-        },
+    Expr {
+        node: ExprNode::Choice { test, yes, no },
         span,
-    })
+    }
 }
 
 /// `place = value`, or `place op= value`.
 pub fn assign_expr(
     alloc: Global,
     op: Option<BinOp>,
-    place: Expr,
+    place: Box<Expr>,
     value: Expr,
 ) -> Result<Expr, NoMemory>
-    ensures { IfOk result (λ e. tree e ≡ grammar.assigned op (tree place) (tree value)) }
+    ensures { IfOk result (λ e. tree e ≡ grammar.assigned op (tree place.value) (tree value)) }
 {
     let span = span_over(place.span, value.span);
     Ok(Expr {
         node: ExprNode::Assign {
             op,
-            place: Box::new(alloc, place)?,
+            place,
             value: Box::new(alloc, value)?,
         },
         span,
@@ -185,13 +196,13 @@ pub fn assign_expr(
 }
 
 /// `left, right`
-pub fn comma_expr(alloc: Global, left: Expr, right: Expr) -> Result<Expr, NoMemory>
-    ensures { IfOk result (λ e. tree e ≡ grammar.followed (tree left) (tree right)) }
+pub fn comma_expr(alloc: Global, left: Box<Expr>, right: Expr) -> Result<Expr, NoMemory>
+    ensures { IfOk result (λ e. tree e ≡ grammar.followed (tree left.value) (tree right)) }
 {
     let span = span_over(left.span, right.span);
     Ok(Expr {
         node: ExprNode::Comma {
-            left: Box::new(alloc, left)?,
+            left,
             right: Box::new(alloc, right)?,
         },
         span,
@@ -233,94 +244,82 @@ pub fn block_stmt(from: Span, items: Vec<Item>, to: Span) -> Stmt
 }
 
 /// `if (test) yes`
-pub fn if_stmt(alloc: Global, from: Span, test: Expr, yes: Stmt) -> Result<Stmt, NoMemory>
-    ensures { IfOk result (λ s.
-        code s ≡ plain.if_then (tree test) (code yes) (over from (span_of_code (code yes)))) }
+pub fn if_stmt(from: Span, test: Expr, yes: Box<Stmt>) -> Stmt
+    ensures { code result
+        ≡ plain.if_then (tree test) (code yes.value) (over from (span_of_code (code yes.value))) }
 {
     let span = span_over(from, yes.span);
-    Ok(Stmt {
+    Stmt {
         node: StmtNode::If {
             test,
-            yes: Box::new(alloc, yes)?,
+            yes,
             no: None,
         },
         span,
-    })
+    }
 }
 
 /// `if (test) yes else no`
-pub fn if_else_stmt(
-    alloc: Global,
-    from: Span,
-    test: Expr,
-    yes: Stmt,
-    no: Stmt,
-) -> Result<Stmt, NoMemory>
-    ensures { IfOk result (λ s.
-        code s ≡ plain.if_else (tree test) (code yes) (code no) (over from (span_of_code (code no)))) }
+pub fn if_else_stmt(from: Span, test: Expr, yes: Box<Stmt>, no: Box<Stmt>) -> Stmt
+    ensures { code result
+        ≡ plain.if_else (tree test) (code yes.value) (code no.value)
+        (over from (span_of_code (code no.value))) }
 {
     let span = span_over(from, no.span);
-    Ok(Stmt {
+    Stmt {
         node: StmtNode::If {
             test,
-            yes: Box::new(alloc, yes)?,
-            no: Some(Box::new(alloc, no)?),
+            yes,
+            no: Some(no),
         },
         span,
-    })
+    }
 }
 
 /// `while (test) body`
-pub fn while_stmt(alloc: Global, from: Span, test: Expr, body: Stmt) -> Result<Stmt, NoMemory>
-    ensures { IfOk result (λ s.
-        code s ≡ plain.while (tree test) (code body) (over from (span_of_code (code body)))) }
+pub fn while_stmt(from: Span, test: Expr, body: Box<Stmt>) -> Stmt
+    ensures { code result
+        ≡ plain.while (tree test) (code body.value) (over from (span_of_code (code body.value))) }
 {
     let span = span_over(from, body.span);
-    Ok(Stmt {
-        node: StmtNode::While {
-            test,
-            body: Box::new(alloc, body)?,
-        },
+    Stmt {
+        node: StmtNode::While { test, body },
         span,
-    })
+    }
 }
 
 /// `do body while (test);`
-pub fn do_stmt(alloc: Global, body: Stmt, test: Expr, span: Span) -> Result<Stmt, NoMemory>
-    ensures { IfOk result (λ s. code s ≡ plain.do_while (code body) (tree test) span) }
+pub fn do_stmt(body: Box<Stmt>, test: Expr, span: Span) -> Stmt
+    ensures { code result ≡ plain.do_while (code body.value) (tree test) span }
 {
-    Ok(Stmt {
-        node: StmtNode::Do {
-            body: Box::new(alloc, body)?,
-            test,
-        },
+    Stmt {
+        node: StmtNode::Do { body, test },
         span,
-    })
+    }
 }
 
 /// `for (init test; step) body`
 pub fn for_stmt(
-    alloc: Global,
     from: Span,
     init: Init,
     test: Option<Expr>,
     step: Option<Expr>,
-    body: Stmt,
-) -> Result<Stmt, NoMemory>
-    ensures { IfOk result (λ s.
-        code s ≡ plain.for (first init) (tree_option test) (tree_option step) (code body)
-        (over from (span_of_code (code body)))) }
+    body: Box<Stmt>,
+) -> Stmt
+    ensures { code result
+        ≡ plain.for (first init) (tree_option test) (tree_option step) (code body.value)
+        (over from (span_of_code (code body.value))) }
 {
     let span = span_over(from, body.span);
-    Ok(Stmt {
+    Stmt {
         node: StmtNode::For {
             init,
             test,
             step,
-            body: Box::new(alloc, body)?,
+            body,
         },
         span,
-    })
+    }
 }
 
 /// `return`, with a value or with none.

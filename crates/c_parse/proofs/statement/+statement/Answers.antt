@@ -33,11 +33,11 @@ parse_block-returns t c =
 
 pub parse_if-returns-in_err-no : goal.parse_if-returns-in_err-no
 parse_if-returns-in_err-no t c =
-    let k : is_else (lookahead c.parse_inner_statement.new.cursor.rest.now) ≡ true = search rules in
+    let k : is_else (lookahead c.parse_boxed_statement.new.cursor.rest.now) ≡ true = search rules in
     let p = err_from_is_err_and c.from_residual-in_err-no.result c.from_residual-in_err-no.ensures.1 in
     rw (p.1, p.2)
     (λ h.
-    branch_fails c.args.cursor.now.room c.args.cursor.now.rest.now c.in_err-no.field-0.0 c.parse_inner_statement-2.new.cursor.rest.now
+    branch_fails c.args.cursor.now.room c.args.cursor.now.rest.now c.in_err-no.field-0.0 c.parse_boxed_statement-2.new.cursor.rest.now
     c.in_ok-from.ensures
     c.in_ok-test.ensures c.in_ok-yes.ensures k c.in_ok-advance.ensures
     (c.in_err-no.ensures h))

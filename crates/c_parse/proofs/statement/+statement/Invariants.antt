@@ -7,6 +7,9 @@ use Rattle.c_parse.proofs.statement.+statement.Given as goal
 abbrev pub decreases-parse_inner_statement : goal.decreases-parse_inner_statement
 decreases-parse_inner_statement l = 8 * l.outside
 
+abbrev pub decreases-parse_boxed_statement : goal.decreases-parse_boxed_statement
+decreases-parse_boxed_statement l = 8 * l.outside + 1
+
 abbrev pub decreases-parse_block_item : goal.decreases-parse_block_item
 decreases-parse_block_item l = 8 * l.outside + 1
 

@@ -1,5 +1,7 @@
 use Rattle.std.proofs.Common.{rules, arith, ◌≡◌, ◌+◌, suc, Some, None, sym, ap, ◌∙◌}
 use Rattle.std.proofs.lemmas.Result.{err_from_is_err_and}
+use Rattle.c_tree.specs.Views.{tree}
+use Rattle.c_grammar.specs.Grammar.{joined}
 use Rattle.c_grammar.specs.Terminals.{lookahead, operator_at}
 use Rattle.c_parse.proofs.Turns.{operator_absent, operator_fails, operand_fails, operator_goes, operators_end}
 use Rattle.c_parse.proofs.expression.ExpressionParser.parse_binary_rest.Goals as goal
@@ -14,7 +16,7 @@ returns-in_err-open g c =
     let one : suc c.args.below ≡ c.args.below + 1 = omega arith in
     let k : operator_at (suc c.args.below) (lookahead c.loop-turn.cursor.rest.now) ≡ Some c.in-Some.op = ap
     (λ n. operator_at n (lookahead c.loop-turn.cursor.rest.now)) one ∙ sym c.in-Some.ensures in
-    let p = err_from_is_err_and c.from_residual.result c.from_residual.ensures.1 in
+    let p = err_from_is_err_and c.from_residual-in_err-open.result c.from_residual-in_err-open.ensures.1 in
     rw (p.1, p.2)
     (λ h.
     operator_fails _ c.loop-turn._turn c.loop-turn-test.true c.loop-turn.invariant c.in-Some.op c.in_err-open.field-0.0 c.open.new.self.rest.now k
@@ -38,7 +40,7 @@ loop-turn-preserved g c =
     let k : operator_at (suc c.args.below) (lookahead c.loop-turn.cursor.rest.now) ≡ Some c.in-Some.op = ap
     (λ n. operator_at n (lookahead c.loop-turn.cursor.rest.now)) one ∙ sym c.in-Some.ensures in
     operator_goes _ c.loop-turn._turn c.loop-turn-test.true c.loop-turn.invariant c.in-Some.op k c.in_ok-open.ensures c.in_ok-right.ensures
-    c.in_ok-left.ensures
+    (c.in_ok-left.ensures ∙ ap (λ t. joined c.in-Some.op t (tree c.in_ok-right.right)) c.in_ok-held.ensures)
 
 pub returns : goal.returns
 returns g c = λ h. operators_end _ c.loop-turn._turn c.loop-turn-test.false c.loop-turn.invariant
