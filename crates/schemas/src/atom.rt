@@ -80,7 +80,7 @@ pub fn atom_expr(alloc: Global, atom: &Atom, span: Span) -> Result<Expr, NoMemor
 pub fn bound_expr(alloc: Global, bound: &Bound, span: Span) -> Result<Expr, NoMemory>
     ensures { IfOk result (λ e. tree e ≡ tree_of_bound bound.now span) }
 {
-    let left = atom_expr(alloc, &bound.left, span)?;
-    let right = atom_expr(alloc, &bound.right, span)?;
-    build::binary(alloc, bound.op, left, right, span)
+    let left = build::boxed(alloc, atom_expr(alloc, &bound.left, span)?)?;
+    let right = build::boxed(alloc, atom_expr(alloc, &bound.right, span)?)?;
+    Ok(build::binary(bound.op, left, right, span))
 }

@@ -4,16 +4,19 @@ ghost use Rattle.std.specs.Prelude.{◌≡◌, IfOk, option_map};
 ghost use Rattle.c_location.specs.Shown.{lent};
 ghost use Rattle.c_location.specs.Locations.{expression};
 ghost use Rattle.c_tree.specs.Parts.{span_of};
-ghost use Rattle.c_tree.specs.Tree.{binary as binary_tree};
+ghost use Rattle.c_tree.specs.declared.expr.UnOp.TheVariants.{Flip};
+ghost use Rattle.c_tree.specs.Tree.{unary as unary_tree, binary as binary_tree};
 ghost use Rattle.c_tree.specs.Views.{tree, code};
+ghost use Rattle.schemas.specs.Atoms.{one as number_one};
 ghost use Rattle.schemas.specs.Edits.{bound_tree, with_operator as under, by_one as plus_one, side_by_one as side_plus_one, edited as after, test_before as put_before, made as made_by};
+ghost use Rattle.schemas.specs.Leaves.{atom_tree};
 
 use crate::atom::{Atom, Bound, atom_expr, bound_expr, copy_atom, copy_bound};
 use crate::build;
 use crate::constants::one;
 use crate::leaves::with_leaf;
 use c_location::Part;
-use c_tree::{BinOp, Expr, ExprNode, NoMemory, Stmt, UnOp, copy_expr};
+use c_tree::{BinOp, Expr, ExprNode, NoMemory, Span, Stmt, UnOp, copy_expr};
 use std::alloc::Global;
 
 /// A change of the part at one location.
@@ -62,12 +65,20 @@ fn with_operator(alloc: Global, e: &Expr, op: BinOp) -> Result<Expr, NoMemory>
 {
     match &e.node {
         ExprNode::Binary { left, right, .. } => {
-            let left = copy_expr(alloc, left)?;
-            let right = copy_expr(alloc, right)?;
-            build::binary(alloc, op, left, right, e.span)
+            let left = build::boxed_copy(alloc, left)?;
+            let right = build::boxed_copy(alloc, right)?;
+            Ok(build::binary(op, left, right, e.span))
         }
         _ => Ok(copy_expr(alloc, e)?),
     }
+}
+
+/// The constant 1 in a box, as an expression that covers this text.
+fn one_expr(alloc: Global, span: Span) -> Result<Box<Expr>, NoMemory>
+    ensures { IfOk result (λ r. tree r.value ≡ atom_tree number_one span) }
+{
+    let number = one(alloc)?;
+    build::boxed(alloc, atom_expr(alloc, &number, span)?)
 }
 
 /// A copy of the expression, plus 1 or minus 1.
@@ -79,9 +90,9 @@ fn by_one(alloc: Global, e: &Expr, up: bool) -> Result<Expr, NoMemory>
         true => BinOp::Add,
         false => BinOp::Sub,
     };
-    let number = one(alloc)?;
-    let right = atom_expr(alloc, &number, e.span)?;
-    build::binary(alloc, op, copy_expr(alloc, e)?, right, e.span)
+    let right = one_expr(alloc, e.span)?;
+    let left = build::boxed_copy(alloc, e)?;
+    Ok(build::binary(op, left, right, e.span))
 }
 
 /// A copy of the expression with the right operand at its top plus 1 or minus 1, if it has one.
@@ -90,11 +101,21 @@ fn side_by_one(alloc: Global, e: &Expr, up: bool) -> Result<Expr, NoMemory>
 {
     match &e.node {
         ExprNode::Binary { op, left, right } => {
-            let right = by_one(alloc, right, up)?;
-            build::binary(alloc, *op, copy_expr(alloc, left)?, right, e.span)
+            let right = build::boxed(alloc, by_one(alloc, right, up)?)?;
+            let left = build::boxed_copy(alloc, left)?;
+            Ok(build::binary(*op, left, right, e.span))
         }
         _ => Ok(copy_expr(alloc, e)?),
     }
+}
+
+/// The expression negated.
+#[tactic(auto, using(crate::proofs::Spans::spans))]
+fn negated(alloc: Global, e: &Expr) -> Result<Expr, NoMemory>
+    ensures { IfOk result (λ r. tree r ≡ unary_tree Flip (tree e.now) (span_of (tree e.now))) }
+{
+    let of = build::boxed_copy(alloc, e)?;
+    Ok(build::unary(UnOp::Flip, of, e.span))
 }
 
 /// The expression joined to the bound: what a change makes of it in place, as a tree of its own that
@@ -105,8 +126,9 @@ fn joined(alloc: Global, e: &Expr, op: BinOp, bound: &Bound) -> Result<Expr, NoM
         ≡ binary_tree op (tree e.now) (bound_tree bound.now (span_of (tree e.now)))
         (span_of (tree e.now))) }
 {
-    let right = bound_expr(alloc, bound, e.span)?;
-    build::binary(alloc, op, copy_expr(alloc, e)?, right, e.span)
+    let right = build::boxed(alloc, bound_expr(alloc, bound, e.span)?)?;
+    let left = build::boxed_copy(alloc, e)?;
+    Ok(build::binary(op, left, right, e.span))
 }
 
 /// The new expression in place of this one. It covers the same text. An edit of a statement leaves it.
@@ -119,7 +141,7 @@ pub fn edited_expr(alloc: Global, e: &Expr, edit: &Edit) -> Result<Expr, NoMemor
         Edit::Leaf(k, atom) => with_leaf(alloc, e, *k, atom),
         Edit::Plus(up) => by_one(alloc, e, *up),
         Edit::Side(up) => side_by_one(alloc, e, *up),
-        Edit::Negate => build::unary(alloc, UnOp::Flip, copy_expr(alloc, e)?, e.span),
+        Edit::Negate => negated(alloc, e),
         Edit::Take(atom) => atom_expr(alloc, atom, e.span),
         Edit::Narrow(bound) => joined(alloc, e, BinOp::Both, bound),
         Edit::Widen(bound) => joined(alloc, e, BinOp::Either, bound),

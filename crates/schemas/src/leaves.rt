@@ -1,7 +1,9 @@
 //! The constants and the names of variables in a pure expression, by number.
 
 ghost use Rattle.std.specs.Prelude.{◌≡◌, ◌+◌, ◌<◌, nat_eq, min, if◌then◌else◌, IfOk, MatchOption};
-ghost use Rattle.c_tree.specs.Tree.{choice};
+ghost use Rattle.c_tree.specs.declared.expr.BinOp.{BinOp};
+ghost use Rattle.c_tree.specs.declared.place.Span.{Span};
+ghost use Rattle.c_tree.specs.Tree.{binary, choice, comma};
 ghost use Rattle.c_tree.specs.Views.{tree};
 ghost use Rattle.schemas.specs.Leaves.{atom_tree, leaves, with_leaf as leaf_replaced};
 
@@ -76,33 +78,64 @@ pub fn with_leaf(alloc: Global, e: &Expr, k: u32, atom: &Atom) -> Result<Expr, N
             copy_expr(alloc, e)
         }
         ExprNode::Index { word, slot, index } => {
-            build::index(alloc, word, *slot, with_leaf(alloc, index, k, atom)?, span)
+            let index = boxed_with_leaf(alloc, index, k, atom)?;
+            build::index(alloc, word, *slot, index, span)
         }
         ExprNode::Unary { op, of } => {
-            build::unary(alloc, *op, with_leaf(alloc, of, k, atom)?, span)
+            let of = boxed_with_leaf(alloc, of, k, atom)?;
+            Ok(build::unary(*op, of, span))
         }
-        ExprNode::Cast { ty, of } => build::cast(alloc, *ty, with_leaf(alloc, of, k, atom)?, span),
-        ExprNode::Binary { op, left, right } => match passed(left, k) {
-            None => {
-                let left = with_leaf(alloc, left, k, atom)?;
-                build::binary(alloc, *op, left, copy_expr(alloc, right)?, span)
-            }
-            Some(k) => {
-                let right = with_leaf(alloc, right, k, atom)?;
-                build::binary(alloc, *op, copy_expr(alloc, left)?, right, span)
-            }
-        },
+        ExprNode::Cast { ty, of } => {
+            let of = boxed_with_leaf(alloc, of, k, atom)?;
+            Ok(build::cast(*ty, of, span))
+        }
+        ExprNode::Binary { op, left, right } => {
+            let (left, right) = operands_with_leaf(alloc, left, right, k, atom)?;
+            Ok(build::binary(*op, left, right, span))
+        }
         ExprNode::Choice { test, yes, no } => choice_with_leaf(alloc, test, yes, no, k, atom, span),
-        ExprNode::Comma { left, right } => match passed(left, k) {
-            None => {
-                let left = with_leaf(alloc, left, k, atom)?;
-                build::comma(alloc, left, copy_expr(alloc, right)?, span)
-            }
-            Some(k) => {
-                let right = with_leaf(alloc, right, k, atom)?;
-                build::comma(alloc, copy_expr(alloc, left)?, right, span)
-            }
-        },
+        ExprNode::Comma { left, right } => {
+            let (left, right) = operands_with_leaf(alloc, left, right, k, atom)?;
+            Ok(build::comma(left, right, span))
+        }
+    }
+}
+
+/// The same in a box.
+#[cycle(with_leaf)]
+fn boxed_with_leaf(alloc: Global, e: &Expr, k: u32, atom: &Atom) -> Result<Box<Expr>, NoMemory>
+    ensures { IfOk result (λ r. tree r.value ≡ leaf_replaced k atom.now (tree e.now)) }
+{
+    build::boxed(alloc, with_leaf(alloc, e, k, atom)?)
+}
+
+/// Copies of two operands, with an atom in place of the constant or name of that number in the two.
+#[cycle(with_leaf)]
+fn operands_with_leaf(
+    alloc: Global,
+    left: &Expr,
+    right: &Expr,
+    k: u32,
+    atom: &Atom,
+) -> Result<(Box<Expr>, Box<Expr>), NoMemory>
+    ensures joined { IfOk result (λ r. (op : BinOp) → (s : Span) →
+        binary op (tree r.0.value) (tree r.1.value) s
+        ≡ leaf_replaced k atom.now (binary op (tree left.now) (tree right.now) s)) }
+    ensures in_turn { IfOk result (λ r. (s : Span) →
+        comma (tree r.0.value) (tree r.1.value) s
+        ≡ leaf_replaced k atom.now (comma (tree left.now) (tree right.now) s)) }
+{
+    match passed(left, k) {
+        None => {
+            let left = boxed_with_leaf(alloc, left, k, atom)?;
+            let right = build::boxed_copy(alloc, right)?;
+            Ok((left, right))
+        }
+        Some(k) => {
+            let right = boxed_with_leaf(alloc, right, k, atom)?;
+            let left = build::boxed_copy(alloc, left)?;
+            Ok((left, right))
+        }
     }
 }
 
@@ -121,20 +154,22 @@ fn choice_with_leaf(
         ≡ leaf_replaced k atom.now (choice (tree test.now) (tree yes.now) (tree no.now) span)) }
 {
     let Some(k) = passed(test, k) else {
-        let test = with_leaf(alloc, test, k, atom)?;
-        let yes = copy_expr(alloc, yes)?;
-        return build::choice(alloc, test, yes, copy_expr(alloc, no)?, span);
+        let test = boxed_with_leaf(alloc, test, k, atom)?;
+        let yes = build::boxed_copy(alloc, yes)?;
+        let no = build::boxed_copy(alloc, no)?;
+        return Ok(build::choice(test, yes, no, span));
     };
+    let test = build::boxed_copy(alloc, test)?;
     match passed(yes, k) {
         None => {
-            let yes = with_leaf(alloc, yes, k, atom)?;
-            let no = copy_expr(alloc, no)?;
-            build::choice(alloc, copy_expr(alloc, test)?, yes, no, span)
+            let yes = boxed_with_leaf(alloc, yes, k, atom)?;
+            let no = build::boxed_copy(alloc, no)?;
+            Ok(build::choice(test, yes, no, span))
         }
         Some(k) => {
-            let no = with_leaf(alloc, no, k, atom)?;
-            let yes = copy_expr(alloc, yes)?;
-            build::choice(alloc, copy_expr(alloc, test)?, yes, no, span)
+            let no = boxed_with_leaf(alloc, no, k, atom)?;
+            let yes = build::boxed_copy(alloc, yes)?;
+            Ok(build::choice(test, yes, no, span))
         }
     }
 }
