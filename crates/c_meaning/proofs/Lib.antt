@@ -9,4 +9,5 @@ pub mod Lists
 pub mod Sizes
 pub mod Turns
 pub mod Callings
+pub mod Numbers
 mod Examples

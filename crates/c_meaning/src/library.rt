@@ -4,7 +4,8 @@ ghost use Rattle.std.specs.Prelude.{◌≡◌, option_map, IfOk};
 ghost use Rattle.c_meaning.specs.World.{Gives};
 ghost use Rattle.c_meaning.specs.Library.{one_number as one_number_of, numbers as numbers_in};
 ghost use Rattle.c_meaning.specs.Library.{call_getchar as getchar, call_putchar as putchar};
-ghost use Rattle.c_meaning.specs.Library.{call_printf as printf, call_scanf as scanf, read_to as read_to_place};
+ghost use Rattle.c_meaning.specs.Library.{call_printf as printf, print as print_by};
+ghost use Rattle.c_meaning.specs.Library.{call_scanf as scanf, read_to as read_to_place};
 ghost use Rattle.c_meaning.specs.Library.{call_abs as abs_of, call_exit as exit_with};
 
 use crate::argument::Argument;
@@ -12,7 +13,7 @@ use crate::state::State;
 use crate::stop::{End, Stop};
 use c_arith::fitting;
 use c_stdio::{Scan, conversion_count};
-use c_tree::{NoMemory, Ty};
+use c_tree::{NoMemory, Text, Ty};
 use std::alloc::Global;
 
 /// The one number among the arguments.
@@ -57,10 +58,17 @@ pub fn call_printf(
     let Some(numbers) = numbers_of(alloc, rest)? else {
         return Err(Stop::Over(End::Trapped));
     };
+    Ok(Some(print(format, &numbers, state)?))
+}
+
+/// Writes a format with these numbers, which have to be as many as its conversions.
+fn print(format: &Text, numbers: &[i64], state: &mut State<'_>) -> Result<i64, Stop>
+    ensures { Gives (λ v. v) result state.new (print_by format.now numbers.now state.old) }
+{
     if conversion_count(format.as_slice()) != Some(numbers.len()) {
         return Err(Stop::Over(End::Trapped));
     }
-    Ok(Some(state.print(format.as_slice(), &numbers)?))
+    Ok(state.print(format.as_slice(), numbers)?)
 }
 
 /// The numbers that these arguments are, if all are numbers.
